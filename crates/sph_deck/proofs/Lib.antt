@@ -1,0 +1,11 @@
+pub mod Names
+pub mod RowFaults
+pub mod Numbers
+pub mod Elements
+pub mod Array
+pub mod Standing
+pub mod Tables
+pub mod Clean
+pub mod InRange
+pub mod Documents
+pub mod Extremes

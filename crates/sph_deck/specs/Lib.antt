@@ -1,0 +1,14 @@
+pub use Rattle.sph_num.specs.Bound
+pub use Rattle.sph_num.specs.Ranges
+pub use Rattle.toml.specs.Data
+pub use Rattle.toml.specs.Parse
+pub mod Accepted
+pub mod Document
+pub mod Faults
+pub mod FirstDeck
+pub mod Keys
+pub mod Judged
+pub mod Row
+pub mod Rows
+pub mod Agreement
+pub mod Answers

@@ -1,0 +1,87 @@
+//! The keys of a deck.
+ghost use Rattle.std.specs.Prelude.{◌≡◌, Some};
+ghost use Rattle.sph_deck.specs.Keys.{name_of, number_of, range_of};
+
+/// A key of the top, down to `Particle`, or of one particle. All but `Particle` want an integer.
+#[derive(Clone, Copy, Debug, PartialEq, Eq)]
+pub enum Key {
+    Ticks,
+    Every,
+    BinMin,
+    BinMax,
+    Sound,
+    Shift,
+    Accuracy,
+    Leaf,
+    Pairs,
+    Slack,
+    Particle,
+    Mass,
+    H,
+    X,
+    Y,
+    Z,
+    Px,
+    Py,
+    Pz,
+}
+
+impl Key {
+    /// The key's name in a deck.
+    pub fn name(self) -> &'static str
+        ensures { result.now ≡ name_of self }
+    {
+        match self {
+            Key::Ticks => "ticks",
+            Key::Every => "every",
+            Key::BinMin => "bin_min",
+            Key::BinMax => "bin_max",
+            Key::Sound => "sound",
+            Key::Shift => "shift",
+            Key::Accuracy => "accuracy",
+            Key::Leaf => "leaf",
+            Key::Pairs => "pairs",
+            Key::Slack => "slack",
+            Key::Particle => "particle",
+            Key::Mass => "mass",
+            Key::H => "h",
+            Key::X => "x",
+            Key::Y => "y",
+            Key::Z => "z",
+            Key::Px => "px",
+            Key::Py => "py",
+            Key::Pz => "pz",
+        }
+    }
+
+    /// The key's number in a place, from 1.
+    pub fn number(self) -> u32
+        ensures { result ≡ number_of self }
+    {
+        self as u32 + 1
+    }
+
+    /// The least and the greatest integer that the key takes; none for the array of particles.
+    pub fn range(self) -> Option<(i64, i64)>
+        ensures { result ≡ range_of self }
+    {
+        const MOMENTUM: (i64, i64) = (-i64::MAX, i64::MAX);
+        let range = match self {
+            Key::Ticks => (0, 65_536),
+            Key::Every => (1, 65_536),
+            Key::BinMin | Key::BinMax => (0, 10),
+            Key::Sound => (1, 65_536),
+            Key::Shift => (0, 60),
+            Key::Accuracy => (0, 4_294_967_295),
+            Key::Leaf => (1, 256),
+            Key::Pairs => (1, 1_073_741_824),
+            Key::Slack => (0, 65_535),
+            Key::Particle => return None,
+            Key::Mass => (1, 65_536),
+            Key::H => (1_024, 131_072),
+            Key::X | Key::Y | Key::Z => (0, 1_048_575),
+            Key::Px | Key::Py | Key::Pz => MOMENTUM,
+        };
+        Some(range)
+    }
+}

@@ -1,0 +1,26 @@
+-- The cubic spline kernel in whole numbers: the distance in 1024ths of the smoothing length, the kernel at it.
+use Rattle.std.specs.Prelude.{◌≡◌, ℕ, zero, suc, ◌+◌, ◌-◌, ◌*◌, ◌^◌, ◌≤◌, Bool, if◌then◌else◌, nat_le, List, length, slice_index}
+
+-- the greatest number from 1 to n that passes the test, or 0 where none does
+abbrev pub greatest_passing : (ℕ → Bool) → ℕ → ℕ
+greatest_passing passes zero = 0
+greatest_passing passes (suc n) = if passes (suc n) then suc n else greatest_passing passes n
+
+-- the distance in 1024ths of h, rounded down: the greatest s with s²·h² <= 2^20·r2, which is no more than 2^20·r2
+unfoldable pub root_of : ℕ → ℕ → ℕ
+root_of r2 h = greatest_passing (λ s. nat_le ((s * s) * (h * h)) (2 ^ 20 * r2)) (2 ^ 20 * r2)
+
+-- the kernel at a distance of s 1024ths of h: its scale is 2^30 at no distance, and it ends at 1024
+unfoldable pub kernel_w : ℕ → ℕ
+kernel_w s =
+    if nat_le s 512 then (2 ^ 30 + 6 * (s * s * s)) - 6 * 2 ^ 10 * (s * s)
+    else 2 * ((1024 - s) * (1024 - s) * (1024 - s))
+
+-- 8 over pi, which makes the kernel's integral one, at a scale of 2^16
+abbrev pub kernel_constant : ℕ
+kernel_constant = 166886
+
+-- the list has the function's value at each distance from 0 to 1024
+pub record IsTableOf (f : ℕ → ℕ) (values : List ℕ) : Type 0 where
+  pub length : length values ≡ 1025
+  pub at : (s : ℕ) → s ≤ 1024 → slice_index values s ≡ f s

@@ -1,0 +1,40 @@
+//! What one particle adds to the density at another.
+ghost use Rattle.std.specs.Prelude.{◌≡◌, ◌<◌, ◌*◌, ◌^◌};
+ghost use Rattle.sph_num.specs.Density.{density_part};
+ghost use Rattle.sph_num.specs.Ranges.{IsMass, IsLength};
+
+use crate::kernel::{Tables, root};
+
+/// The kernel's constant, 8 over pi at a scale of 2^16.
+const KERNEL_CONSTANT: u64 = 166_886;
+
+/// What a mass adds to the density at a particle of smoothing length `h`, from the square `r2` of
+/// their distance. In two divisions of 64 bits, since the numerator can have 72.
+#[inline]
+pub fn density_part(tables: &Tables, mass: u32, r2: u64, h: u32) -> u64
+    requires mass { IsMass mass }
+    requires h { IsLength h }
+    requires in_reach { r2 < h * h }
+    ensures value { result ≡ density_part mass r2 h }
+    ensures below { result < 2 ^ 46 }
+{
+    let weighted = u64::from(mass) * KERNEL_CONSTANT * tables.w(root(r2, h));
+    let length = u64::from(h);
+    let volume = length * length * length;
+    (weighted / volume << 8) + (weighted % volume << 8) / volume
+}
+
+#[cfg(test)]
+mod tests {
+    use super::*;
+    use std::alloc::AllocError;
+
+    #[test]
+    fn adds_what_the_kernel_gives(rt: HostRuntime) -> Result<(), AllocError> {
+        let tables = Tables::new(rt.alloc())?;
+        assert_eq!(rt; density_part(&tables, 1, 0, 131_072), 20);
+        assert_eq!(rt; density_part(&tables, 1024, 0, 1024), 43_748_163_584);
+        assert_eq!(rt; density_part(&tables, 1024, 262_144, 1024), 10_937_040_896);
+        Ok(())
+    }
+}

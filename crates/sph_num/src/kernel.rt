@@ -1,0 +1,91 @@
+//! The cubic spline kernel of Monaghan and Lattanzio (1985), over 1024ths of the smoothing length.
+ghost use Rattle.std.specs.Prelude.{◌≡◌, ◌<◌, ◌≤◌, ◌*◌, ◌^◌};
+ghost use Rattle.sph_num.specs.Kernel.{root_of, kernel_w, IsTableOf};
+ghost use Rattle.sph_num.specs.Ranges.{IsLength};
+
+use std::alloc::{AllocError, Global};
+
+/// The distance in 1024ths of the smoothing length `h`, rounded down, from the square `r2` of the
+/// distance. By bisection between 0 and 1024, in 64 bits.
+#[inline]
+pub fn root(r2: u64, h: u32) -> u32
+    requires h { IsLength h }
+    requires in_reach { r2 < h * h }
+    ensures value { result ≡ root_of r2 h }
+    ensures below { result < 1024 }
+{
+    let wanted = r2 << 20;
+    let h2 = u64::from(h) * u64::from(h);
+    let mut low = 0u64;
+    let mut high = 1024u64;
+    while low + 1 < high {
+        let middle = (low + high) / 2;
+        if middle * middle * h2 <= wanted {
+            low = middle;
+        } else {
+            high = middle;
+        }
+    }
+    low as u32
+}
+
+/// The kernel at each of the 1,025 distances, made once for a run.
+#[derive(Debug, Drop)]
+pub struct Tables {
+    w: Vec<u64>,
+    ghost w_is_kernel: { IsTableOf kernel_w w.items },
+}
+
+impl Tables {
+    pub fn new(alloc: Global) -> Result<Tables, AllocError> {
+        let mut w = Vec::with_capacity(alloc, 1025)?;
+        for s in 0..1025 {
+            w.push(kernel_at(s))?;
+        }
+        Ok(Tables { w })
+    }
+
+    /// The kernel at a distance of `s` 1024ths of the smoothing length, at a scale of 2^30.
+    #[inline]
+    pub fn w(&self, s: u32) -> u64
+        requires { s ≤ 1024 }
+        ensures value { result ≡ kernel_w s }
+        ensures below { result ≤ 2 ^ 30 }
+    {
+        self.w[s as usize]
+    }
+}
+
+/// The kernel's two cubics, which meet at 512.
+fn kernel_at(s: u64) -> u64
+    requires { s ≤ 1024 }
+    ensures { result ≡ kernel_w s }
+{
+    if s <= 512 {
+        (1 << 30) + 6 * (s * s * s) - 6 * 1024 * (s * s)
+    } else {
+        let rest = 1024 - s;
+        2 * (rest * rest * rest)
+    }
+}
+
+#[cfg(test)]
+mod tests {
+    use super::*;
+
+    #[test]
+    fn rounds_the_root_down(rt: HostRuntime) {
+        assert_eq!(rt; root(262_144, 1024), 512);
+        assert_eq!(rt; root(0, 131_072), 0);
+    }
+
+    #[test]
+    fn tabulates_the_kernel(rt: HostRuntime) -> Result<(), AllocError> {
+        let tables = Tables::new(rt.alloc())?;
+        for (s, want) in [(0, 1 << 30), (512, 1 << 28), (1024, 0)] {
+            assert!(rt; s <= 1024);
+            assert_eq!(rt; tables.w(s), want, "at {s}");
+        }
+        Ok(())
+    }
+}

@@ -1,0 +1,14 @@
+//! Particles in a periodic box, and what one pair of them gives, in whole numbers.
+#![tactic(auto)]
+
+mod density;
+mod kernel;
+mod list;
+mod particle;
+mod space;
+
+pub use density::density_part;
+pub use kernel::{Tables, root};
+pub use list::ParticleList;
+pub use particle::{Bounds, Params, Particle};
+pub use space::{dist2, minimal};

@@ -1,0 +1,133 @@
+-- What follows from that on which an answer rests, before its line is written.
+use Rattle.std.proofs.Common.{◌≡◌, ℕ, ◌+◌, ◌<◌, ◌≤◌, List, [], ◌++◌, length, refl, sym, ap, ◌∙◌, subst, inl, inr, ◌⊎◌, arith, append-nil, length-append}
+use Rattle.std.specs.Prelude.{Option, None, Some, String}
+use Rattle.std.specs.declared.alloc.Global.{Global}
+use Rattle.std.specs.Io.KnownBytes.{Appends, Consumes, IsAtEnd}
+use Rattle.std.proofs.KnownBytes.{Appends-nil}
+use Rattle.sph_deck.specs.declared.deck.Deck.{Deck}
+use Rattle.sph_deck.specs.declared.fault.DeckFault.{DeckFault}
+use Rattle.sph_deck.specs.declared.fault.DeckFault.TheVariants.{NotToml, TooLong}
+use Rattle.sph_deck.specs.Faults.{Stands, longest_text}
+use Rattle.sph_deck.specs.FirstDeck.{IsFirstDeck, IsOtherThanFirst}
+use Rattle.sph_edge.specs.Bytes.{GaveAll}
+use Rattle.sph_edge.specs.Causes.{Rose, Stayed}
+use Rattle.sph_edge.specs.Whole.{GaveTooMuch}
+use Rattle.sph_top.specs.declared.status.Status.{Status}
+use Rattle.sph_top.specs.declared.status.Status.TheVariants.{Done, DeckRefused, NotBuilt, ReadFault, WriteFault, NoMemory}
+use Rattle.sph_top.specs.Answers.{Seen, WasRead, ReadsFirst, IsDeckRefused, IsCaused, AppendsSome, AppendsToAnEnd, IsWithoutOutput}
+use Rattle.sph_top.specs.Snapshot.{first_snapshot, end_mark}
+use Rattle.sph_top.specs.Steps.{Rests}
+use Rattle.sph_top.specs.Words.{NamesRun}
+use Rattle.sph_top.proofs.Streams.{AppendsPrefix-whole}
+
+-- a count that stayed did not rise
+pub stayed_not_rose : (before now : ℕ) → Stayed before now → Rose before now → ⊥
+stayed_not_rose before now stayed rose = omega arith
+
+-- what a source gave to its end is what it had
+GaveAll-same_of : (bytes given : List ℕ) (after : Option (List ℕ)) → Consumes (Some bytes) after given → IsAtEnd after → given ≡ bytes
+GaveAll-same_of bytes given None gave ended = absurd gave
+GaveAll-same_of bytes given (Some rest) gave ended = sym (gave ∙ ap (λ l. given ++ l) ended ∙ append-nil given)
+
+GaveAll-same : (before after : Option (List ℕ)) (bytes given : List ℕ) → before ≡ Some bytes → GaveAll before after given → given ≡ bytes
+GaveAll-same before after bytes given has gave =
+    GaveAll-same_of bytes given after (subst (λ b. Consumes b after given) has gave.gave) gave.ended
+
+-- a source that gave too much had too much
+GaveTooMuch-long_of : (limit : ℕ) (bytes given : List ℕ) (after : Option (List ℕ)) → Consumes (Some bytes) after given → length given ≡ limit + 1 → limit < length bytes
+GaveTooMuch-long_of limit bytes given None gave past = absurd gave
+GaveTooMuch-long_of limit bytes given (Some rest) gave past = omega (arith, length-append given rest, ap length gave)
+
+GaveTooMuch-long : (limit : ℕ) (before after : Option (List ℕ)) (bytes : List ℕ) → before ≡ Some bytes → GaveTooMuch limit before after → limit < length bytes
+GaveTooMuch-long limit before after bytes has gave =
+    GaveTooMuch-long_of limit bytes gave.bytes after (subst (λ b. Consumes b after gave.bytes) has gave.gave) gave.past
+
+-- the cause of an answer that isn't Done
+pub IsCaused-rests : (status : Status) (words : List (String Global)) (source source' out out' : Seen) → (status ≡ Done → ⊥)
+    → Rests status words source source' out out' → IsCaused status words source source' out out'
+IsCaused-rests Done words source source' out out' undone rests = absurd (undone refl)
+IsCaused-rests (DeckRefused fault) words source source' out out' undone rests = rests
+IsCaused-rests NotBuilt words source source' out out' undone rests = rests
+IsCaused-rests ReadFault words source source' out out' undone rests = rests
+IsCaused-rests WriteFault words source source' out out' undone rests = (rests.2.0, inr (rests.0, rests.1, rests.2.1))
+IsCaused-rests NoMemory words source source' out out' undone rests = rests.1
+
+-- a snapshot without its end mark is some of the stream
+AppendsSome-to_an_end : (words : List (String Global)) (source source' out out' : Seen) → AppendsToAnEnd words source source' out out'
+    → AppendsSome words source source' out out'
+AppendsSome-to_an_end words source source' out out' (inl none) = inl none
+AppendsSome-to_an_end words source source' out out' (inr some) =
+    inr (some.0, some.1, AppendsPrefix-whole out.bytes out'.bytes (first_snapshot some.0.particles) end_mark some.2)
+
+-- a sink that stays as it was gets nothing
+Appends-same : (out out' : Seen) → out' ≡ out → Appends out.bytes out'.bytes []
+Appends-same out out' same = subst (λ (o : Seen). Appends out.bytes o.bytes []) (sym same) (Appends-nil out.bytes)
+
+-- what was appended before any answer but Done
+pub AppendsSome-rests : (status : Status) (words : List (String Global)) (source source' out out' : Seen) → (status ≡ Done → ⊥)
+    → (IsWithoutOutput status → out' ≡ out) → Rests status words source source' out out' → AppendsSome words source source' out out'
+AppendsSome-rests Done words source source' out out' undone same rests = absurd (undone refl)
+AppendsSome-rests (DeckRefused fault) words source source' out out' undone same rests = inl (Appends-same out out' (same tt))
+AppendsSome-rests NotBuilt words source source' out out' undone same rests = inl (Appends-same out out' (same tt))
+AppendsSome-rests ReadFault words source source' out out' undone same rests = inl (Appends-same out out' (same tt))
+AppendsSome-rests WriteFault words source source' out out' undone same rests = inr (rests.0, rests.1, rests.2.1)
+AppendsSome-rests NoMemory words source source' out out' undone same rests = AppendsSome-to_an_end words source source' out out' rests.1
+
+-- Where the source tells its bytes and no read failed, the answer is that of these bytes.
+module _ (words : List (String Global)) (source source' out out' : Seen) (job : NamesRun words) (bytes : List ℕ) (has : source.bytes ≡ Some bytes)
+    (stayed : Stayed source.faults source'.faults) where
+  -- the bytes that were read
+  same : (given : List ℕ) → WasRead words source source' given → given ≡ bytes
+  same given read = GaveAll-same source.bytes source'.bytes bytes given has read.gave
+
+  -- a first deck that was read is that of the bytes
+  first_of : (deck : Deck) → ReadsFirst words source source' deck → IsFirstDeck bytes deck
+  first_of deck reads = subst (λ l. IsFirstDeck l deck) (same reads.bytes reads.read) reads.first
+
+  -- what NotBuilt says of the bytes
+  not_built : Rests NotBuilt words source source' out out' → (longest_text < length bytes) ⊎ IsOtherThanFirst bytes
+  not_built (inl unnamed) = absurd (unnamed job)
+  not_built (inr (inl long)) = inl (GaveTooMuch-long longest_text source.bytes source'.bytes bytes has long.gave)
+  not_built (inr (inr other)) = inr (subst IsOtherThanFirst (same other.bytes other.read) other.other)
+
+  -- a text that is no TOML document is refused
+  pub refused : (status : Status) → Rests status words source source' out out' → length bytes ≤ longest_text → Stands bytes NotToml
+      → (status ≡ DeckRefused NotToml) ⊎ (status ≡ NoMemory)
+  refused Done rests short stands = absurd ((first_of rests.0 rests.1).accepted NotToml stands)
+  refused (DeckRefused fault) rests short stands = inl (ap DeckRefused rests.not_toml)
+  refused NotBuilt rests short stands = elim (not_built rests) [ inl long ↦ absurd (omega arith) | inr other ↦ absurd (other.toml stands) ]
+  refused ReadFault rests short stands = absurd (stayed_not_rose source.faults source'.faults stayed rests.1)
+  refused WriteFault rests short stands = absurd ((first_of rests.0 rests.1).accepted NotToml stands)
+  refused NoMemory rests short stands = inr refl
+
+  -- no first deck has these bytes
+  no_first : (deck : Deck) → ReadsFirst words source source' deck → (longest_text < length bytes) ⊎ IsOtherThanFirst bytes → ⊥
+  no_first deck reads (inl long) = (first_of deck reads).accepted TooLong long
+  no_first deck reads (inr other) = other.not_first deck (first_of deck reads)
+
+  -- nor are they refused as no TOML document
+  no_refusal : (fault : DeckFault) → IsDeckRefused fault words source source' → (longest_text < length bytes) ⊎ IsOtherThanFirst bytes → ⊥
+  no_refusal fault refusal (inl long) = let short = refusal.short in let e = ap length (same refusal.bytes refusal.read) in omega arith
+  no_refusal fault refusal (inr other) = other.toml (subst (λ l. Stands l NotToml) (same refusal.bytes refusal.read) refusal.stands)
+
+  -- a text that is too long, or a TOML document but no first deck, is answered by NotBuilt
+  pub unbuilt : (status : Status) → Rests status words source source' out out' → (longest_text < length bytes) ⊎ IsOtherThanFirst bytes
+      → (status ≡ NotBuilt) ⊎ (status ≡ NoMemory)
+  unbuilt Done rests why = absurd (no_first rests.0 rests.1 why)
+  unbuilt (DeckRefused fault) rests why = absurd (no_refusal fault rests why)
+  unbuilt NotBuilt rests why = inl refl
+  unbuilt ReadFault rests why = absurd (stayed_not_rose source.faults source'.faults stayed rests.1)
+  unbuilt WriteFault rests why = absurd (no_first rests.0 rests.1 why)
+  unbuilt NoMemory rests why = inr refl
+
+  -- a first deck is run to its end, where no write failed
+  pub run_whole : (status : Status) → Rests status words source source' out out' → (deck : Deck) → IsFirstDeck bytes deck
+      → Stayed out.faults out'.faults → (status ≡ Done) ⊎ (status ≡ NoMemory)
+  run_whole Done rests deck first kept = inl refl
+  run_whole (DeckRefused fault) rests deck first kept =
+      absurd (first.accepted NotToml (subst (λ l. Stands l NotToml) (same rests.bytes rests.read) rests.stands))
+  run_whole NotBuilt rests deck first kept =
+      elim (not_built rests) [ inl long ↦ absurd (first.accepted TooLong long) | inr other ↦ absurd (other.not_first deck first) ]
+  run_whole ReadFault rests deck first kept = absurd (stayed_not_rose source.faults source'.faults stayed rests.1)
+  run_whole WriteFault rests deck first kept = absurd (stayed_not_rose out.faults out'.faults kept rests.2.0)
+  run_whole NoMemory rests deck first kept = inr refl

@@ -1,0 +1,34 @@
+use Rattle.std.proofs.Common.{ap}
+use Rattle.sph_deck.specs.declared.fault.DeckFault.TheVariants.{NotToml}
+use Rattle.sph_top.specs.declared.status.Status.TheVariants.{DeckRefused, NotBuilt}
+use Rattle.sph_top.specs.Answers.{seen}
+use Rattle.sph_top.proofs.Reported.{done, yields, output_of_write_fault, line_of_write_fault, whole_run}
+use Rattle.sph_top.proofs.Rest.{refused, unbuilt, run_whole}
+use Rattle.sph_top.proofs.answer.swiftq.Goals as goal
+
+pub returns-clause-done : goal.returns-clause-done
+returns-clause-done g c = done c.answer-status.result c.report.result _ _ c.report.ensures.told c.args.words.now _ _ _ _ c.answer-status.ensures.rests
+
+pub returns-clause-deck_refused_where : goal.returns-clause-deck_refused_where
+returns-clause-deck_refused_where g c job bytes has stayed short stands =
+    yields c.answer-status.result c.report.result _ _ c.report.ensures.told (DeckRefused NotToml)
+    (refused c.args.words.now _ _ _ _ job bytes has stayed c.answer-status.result c.answer-status.ensures.rests short stands)
+
+pub returns-clause-not_built_for_deck : goal.returns-clause-not_built_for_deck
+returns-clause-not_built_for_deck g c job bytes has stayed why =
+    yields c.answer-status.result c.report.result _ _ c.report.ensures.told NotBuilt
+    (unbuilt c.args.words.now _ _ _ _ job bytes has stayed c.answer-status.result c.answer-status.ensures.rests why)
+
+pub returns-clause-write_fault_output : goal.returns-clause-write_fault_output
+returns-clause-write_fault_output g c =
+    output_of_write_fault c.answer-status.result c.report.result _ _ c.report.ensures.told c.args.words.now _ _ _ _ c.answer-status.ensures.rests
+    (λ w. ap (seen g.O.Sink.held g.O.Sink.faults) (c.answer-status.ensures.untouched w))
+
+pub returns-clause-error_line_of_write_fault : goal.returns-clause-error_line_of_write_fault
+returns-clause-error_line_of_write_fault g c =
+    line_of_write_fault c.answer-status.result c.report.result _ _ c.report.ensures.told c.args.words.now _ _ _ _ c.answer-status.ensures.rests
+
+pub returns-clause-complete : goal.returns-clause-complete
+returns-clause-complete g c job bytes has deck first stayed kept quiet =
+    whole_run c.answer-status.result c.report.result _ _ c.report.ensures.told quiet
+    (run_whole c.args.words.now _ _ _ _ job bytes has stayed c.answer-status.result c.answer-status.ensures.rests deck first kept)

@@ -1,0 +1,105 @@
+-- What each answer of the top call says of the words, of the bytes that came and of those that went.
+use Rattle.std.specs.Prelude.{◌≡◌, ℕ, ◌≤◌, ◌⊎◌, List, [], length, Option, String, ⊤}
+use Rattle.std.specs.declared.alloc.Global.{Global}
+use Rattle.std.specs.Io.KnownBytes.{Appends, Keeps}
+use Rattle.sph_deck.specs.declared.deck.Deck.{Deck}
+use Rattle.sph_deck.specs.declared.fault.DeckFault.{DeckFault}
+use Rattle.sph_deck.specs.declared.fault.DeckFault.TheVariants.{NotToml}
+use Rattle.sph_deck.specs.Faults.{Stands, longest_text}
+use Rattle.sph_deck.specs.FirstDeck.{IsFirstDeck, IsOtherThanFirst}
+use Rattle.sph_edge.specs.Bytes.{GaveAll, AppendsPrefix}
+use Rattle.sph_edge.specs.Causes.{Rose}
+use Rattle.sph_edge.specs.Whole.{GaveTooMuch}
+use Rattle.sph_top.specs.declared.status.Status.{Status}
+use Rattle.sph_top.specs.declared.status.Status.TheVariants.{Done, DeckRefused, NotBuilt, ReadFault, WriteFault, NoMemory}
+use Rattle.sph_top.specs.Lines.{error_line}
+use Rattle.sph_top.specs.Snapshot.{first_snapshot, stream_of}
+use Rattle.sph_top.specs.Words.{NamesRun}
+
+-- a device at a moment: the bytes that it has left or holds, where it tells them, and its count of faults
+pub record Seen : Type 0 where
+  pub bytes : Option (List ℕ)
+  pub faults : ℕ
+
+abbrev pub seen : {D : Type 0} → (D → Option (List ℕ)) → (D → ℕ) → D → Seen
+seen bytes faults device = record { bytes = bytes device; faults = faults device }
+
+-- the job was named, and these bytes were read to their end without a failure
+pub record WasRead (words : List (String Global)) (source source' : Seen) (bytes : List ℕ) : Type 0 where
+  pub job : NamesRun words
+  pub gave : GaveAll source.bytes source'.bytes bytes
+  pub none_failed : source'.faults ≡ source.faults
+
+-- the job was named, and a first deck was read to its end
+pub record ReadsFirst (words : List (String Global)) (source source' : Seen) (deck : Deck) : Type 0 where
+  pub bytes : List ℕ
+  pub read : WasRead words source source' bytes
+  pub first : IsFirstDeck bytes deck
+
+-- Done: the whole input was read, the whole output was appended, and nothing was written on `err`
+pub record IsDone (words : List (String Global)) (source source' out out' err err' : Seen) : Type 0 where
+  pub deck : Deck
+  pub read : ReadsFirst words source source' deck
+  pub output : Appends out.bytes out'.bytes (stream_of deck.particles)
+  pub quiet : Keeps err.bytes err'.bytes
+
+-- the deck is refused: its text was read to its end, is not too long, and is no TOML document
+pub record IsDeckRefused (fault : DeckFault) (words : List (String Global)) (source source' : Seen) : Type 0 where
+  pub not_toml : fault ≡ NotToml
+  pub bytes : List ℕ
+  pub read : WasRead words source source' bytes
+  pub short : length bytes ≤ longest_text
+  pub stands : Stands bytes NotToml
+
+-- the deck is longer than a deck may be: no more was read than shows it
+pub record IsDeckTooLong (words : List (String Global)) (source source' : Seen) : Type 0 where
+  pub job : NamesRun words
+  pub gave : GaveTooMuch longest_text source.bytes source'.bytes
+  pub none_failed : source'.faults ≡ source.faults
+
+-- the deck is a TOML document, but no first deck
+pub record IsDeckOther (words : List (String Global)) (source source' : Seen) : Type 0 where
+  pub bytes : List ℕ
+  pub read : WasRead words source source' bytes
+  pub other : IsOtherThanFirst bytes
+
+-- nothing was appended, or, where a first deck was read, some of its stream's first bytes
+abbrev pub AppendsSome : List (String Global) → Seen → Seen → Seen → Seen → Type 0
+AppendsSome words source source' out out' =
+    Appends out.bytes out'.bytes []
+    ⊎ ((deck : Deck) × ReadsFirst words source source' deck × AppendsPrefix out.bytes out'.bytes (stream_of deck.particles))
+
+-- nothing was appended, or, where a first deck was read, just its snapshot
+abbrev pub AppendsToAnEnd : List (String Global) → Seen → Seen → Seen → Seen → Type 0
+AppendsToAnEnd words source source' out out' =
+    Appends out.bytes out'.bytes []
+    ⊎ ((deck : Deck) × ReadsFirst words source source' deck × Appends out.bytes out'.bytes (first_snapshot deck.particles))
+
+-- what a refusal rests on: the words, the bytes that were read, or a count that rose
+abbrev pub IsCaused : Status → List (String Global) → Seen → Seen → Seen → Seen → Type 0
+IsCaused Done words source source' out out' = ⊥
+IsCaused (DeckRefused fault) words source source' out out' = IsDeckRefused fault words source source'
+IsCaused NotBuilt words source source' out out' =
+    (NamesRun words → ⊥) ⊎ IsDeckTooLong words source source' ⊎ IsDeckOther words source source'
+IsCaused ReadFault words source source' out out' = NamesRun words × Rose source.faults source'.faults
+IsCaused WriteFault words source source' out out' = Rose out.faults out'.faults × AppendsSome words source source' out out'
+IsCaused NoMemory words source source' out out' = AppendsToAnEnd words source source' out out'
+
+-- the answers that leave the output as it was
+abbrev pub IsWithoutOutput : Status → Type 0
+IsWithoutOutput (DeckRefused fault) = ⊤
+IsWithoutOutput NotBuilt = ⊤
+IsWithoutOutput ReadFault = ⊤
+IsWithoutOutput _ = ⊥
+
+-- A write fault comes only where the count of a sink rose. Its whole line stands on `err`, unless `err` itself failed: then there
+-- are some first bytes of that line, or of the line of the refusal that it replaced, which had its own cause.
+abbrev pub TellsWriteFault : List (String Global) → Seen → Seen → Seen → Seen → Seen → Seen → Type 0
+TellsWriteFault words source source' out out' err err' =
+    (Rose out.faults out'.faults × Appends err.bytes err'.bytes (error_line WriteFault))
+    ⊎ (Rose err.faults err'.faults × (status : Status) × IsCaused status words source source' out out' × AppendsPrefix err.bytes err'.bytes (error_line status))
+
+-- the answer is the wanted one, unless memory ran out or `err` failed
+abbrev pub Yields : Status → Status → Seen → Seen → Type 0
+Yields wanted result err err' =
+    (result ≡ wanted) ⊎ (result ≡ NoMemory) ⊎ ((result ≡ WriteFault) × Rose err.faults err'.faults)

@@ -1,0 +1,9 @@
+pub use Rattle.sph_deck.specs.Faults
+pub use Rattle.sph_deck.specs.FirstDeck
+pub use Rattle.sph_edge.specs.Bytes
+pub use Rattle.sph_edge.specs.Causes
+pub mod Answers
+pub mod Lines
+pub mod Snapshot
+pub mod Steps
+pub mod Words

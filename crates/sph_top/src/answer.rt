@@ -1,0 +1,107 @@
+//! The top call.
+ghost use Rattle.std.specs.Prelude.{◌≡◌, ◌<◌, ◌≤◌, ◌⊎◌, List, ℕ, length, Some};
+ghost use Rattle.std.specs.Io.KnownBytes.{Appends};
+ghost use Rattle.sph_deck.specs.Faults.{Stands, longest_text};
+ghost use Rattle.sph_deck.specs.FirstDeck.{IsFirstDeck, IsOtherThanFirst};
+ghost use Rattle.sph_deck.specs.declared.deck.Deck.{Deck};
+ghost use Rattle.sph_deck.specs.declared.fault.DeckFault.{DeckFault};
+ghost use Rattle.sph_deck.specs.declared.fault.DeckFault.TheVariants.{NotToml};
+ghost use Rattle.sph_edge.specs.Causes.{Rose, Stayed};
+ghost use Rattle.sph_top.specs.Answers.{seen, IsDone, IsDeckRefused, IsDeckTooLong, IsDeckOther, AppendsSome, AppendsToAnEnd, IsWithoutOutput, TellsWriteFault, Yields};
+ghost use Rattle.sph_top.specs.Lines.{error_line};
+ghost use Rattle.sph_top.specs.Steps.{Rests};
+ghost use Rattle.sph_top.specs.Words.{NamesRun};
+
+use crate::report::report;
+use crate::run::run_first;
+use crate::status::Status;
+use crate::words::names_run;
+use sph_deck::LONGEST_TEXT;
+use sph_edge::{Gate, ReadEnd, Sink, Source, read_whole};
+use std::alloc::Global;
+use std::thread::Threads;
+
+/// All that the program does. It reads the words, then the whole source, writes the output to `out`, and
+/// writes the line of a refusal to `err`.
+///
+/// So far the one job is `run`, and it runs first decks: accepted decks with `ticks = 0` and
+/// `bin_max = 0`. Other words and decks are answered by `NotBuilt`.
+pub fn swiftq<R: Threads + Sync, S: Source, O: Sink, E: Sink, G: Gate>(
+    _rt: &R,
+    alloc: Global,
+    words: &[String],
+    source: &mut S,
+    out: &mut O,
+    err: &mut E,
+    _gate: &G,
+) -> Status
+    // Done: the whole input was read, the whole output written, nothing on `err`.
+    ensures done { result ≡ Status.Done → IsDone words.now (seen S.left S.faults source.old) (seen S.left S.faults source.new)
+        (seen O.held O.faults out.old) (seen O.held O.faults out.new) (seen E.held E.faults err.old) (seen E.held E.faults err.new) }
+
+    // A deck is refused exactly where it is no TOML document.
+    ensures deck_refused { (fault : DeckFault) → result ≡ Status.DeckRefused fault
+        → IsDeckRefused fault words.now (seen S.left S.faults source.old) (seen S.left S.faults source.new) }
+    ensures deck_refused_where { NamesRun words.now → (bytes : List ℕ) → S.left source.old ≡ Some bytes
+        → Stayed (S.faults source.old) (S.faults source.new) → length bytes ≤ longest_text → Stands bytes NotToml
+        → Yields (Status.DeckRefused NotToml) result (seen E.held E.faults err.old) (seen E.held E.faults err.new) }
+
+    // What isn't built yet: words that are no job, and then nothing is read, and decks that are no first decks.
+    ensures not_built { result ≡ Status.NotBuilt → (NamesRun words.now → ⊥)
+        ⊎ IsDeckTooLong words.now (seen S.left S.faults source.old) (seen S.left S.faults source.new)
+        ⊎ IsDeckOther words.now (seen S.left S.faults source.old) (seen S.left S.faults source.new) }
+    ensures not_built_for_words { (NamesRun words.now → ⊥)
+        → Yields Status.NotBuilt result (seen E.held E.faults err.old) (seen E.held E.faults err.new) }
+    ensures nothing_read_for_words { (NamesRun words.now → ⊥) → source.new ≡ source.old }
+    ensures not_built_for_deck { NamesRun words.now → (bytes : List ℕ) → S.left source.old ≡ Some bytes
+        → Stayed (S.faults source.old) (S.faults source.new) → (longest_text < length bytes) ⊎ IsOtherThanFirst bytes
+        → Yields Status.NotBuilt result (seen E.held E.faults err.old) (seen E.held E.faults err.new) }
+
+    // A fault comes only where a count of faults rose.
+    ensures read_fault { result ≡ Status.ReadFault → Rose (S.faults source.old) (S.faults source.new) }
+    ensures write_fault { result ≡ Status.WriteFault
+        → Rose (O.faults out.old) (O.faults out.new) ⊎ Rose (E.faults err.old) (E.faults err.new) }
+
+    // What stands after an answer that isn't Done.
+    ensures write_fault_output { result ≡ Status.WriteFault → AppendsSome words.now
+        (seen S.left S.faults source.old) (seen S.left S.faults source.new) (seen O.held O.faults out.old) (seen O.held O.faults out.new) }
+    ensures no_memory { result ≡ Status.NoMemory → AppendsToAnEnd words.now
+        (seen S.left S.faults source.old) (seen S.left S.faults source.new) (seen O.held O.faults out.old) (seen O.held O.faults out.new) }
+    ensures output_untouched { IsWithoutOutput result → out.new ≡ out.old }
+    ensures err_untouched { result ≡ Status.Done → err.new ≡ err.old }
+    ensures error_line { (result ≡ Status.WriteFault → ⊥) → Appends (E.held err.old) (E.held err.new) (error_line result) }
+    ensures error_line_of_write_fault { result ≡ Status.WriteFault → TellsWriteFault words.now
+        (seen S.left S.faults source.old) (seen S.left S.faults source.new) (seen O.held O.faults out.old) (seen O.held O.faults out.new)
+        (seen E.held E.faults err.old) (seen E.held E.faults err.new) }
+
+    // A named job, a first deck and no fault give Done, unless memory runs out.
+    ensures complete { NamesRun words.now → (bytes : List ℕ) → S.left source.old ≡ Some bytes → (deck : Deck) → IsFirstDeck bytes deck
+        → Stayed (S.faults source.old) (S.faults source.new) → Stayed (O.faults out.old) (O.faults out.new)
+        → Stayed (E.faults err.old) (E.faults err.new) → (result ≡ Status.Done) ⊎ (result ≡ Status.NoMemory) }
+{
+    let status = answer(alloc, words, source, out);
+    report(status, err)
+}
+
+/// The answer before its line is written: reads the words and the source, and writes the output.
+fn answer<S: Source, O: Sink>(
+    alloc: Global,
+    words: &[String],
+    source: &mut S,
+    out: &mut O,
+) -> Status
+    ensures rests { Rests result words.now (seen S.left S.faults source.old) (seen S.left S.faults source.new)
+        (seen O.held O.faults out.old) (seen O.held O.faults out.new) }
+    ensures unread { (NamesRun words.now → ⊥) → source.new ≡ source.old }
+    ensures untouched { IsWithoutOutput result → out.new ≡ out.old }
+{
+    if !names_run(words) {
+        return Status::NotBuilt;
+    }
+    match read_whole(alloc, source, LONGEST_TEXT) {
+        Ok(bytes) => run_first(alloc, &bytes, out),
+        Err(ReadEnd::TooLong) => Status::NotBuilt,
+        Err(ReadEnd::Fault) => Status::ReadFault,
+        Err(ReadEnd::Memory) => Status::NoMemory,
+    }
+}
