@@ -5,12 +5,10 @@ ghost use Rattle.sph_num.specs.Ranges.{AreParamsInRange, IsBody, IsDeckMomentum}
 ghost use Rattle.sph_num.proofs.Sums.{AreBoundsInRange};
 ghost use Rattle.sph_num.specs.declared.particle.Particle.{Particle};
 
-use sph_num::{Bounds, Params, Particle};
+use sph_num::{Bounds, KERNEL_CONSTANT, Params, Particle};
 
-/// The kernel's constant, 8 over pi at a scale of 2^16.
-const KERNEL_CONSTANT: u128 = 166_886;
-
-/// The number of particles, and the least and the greatest of their masses and lengths.
+/// The number of particles, and the least and the greatest of their masses and lengths. The parameters
+/// don't matter so far.
 pub fn bounds_of(_params: &Params, particles: &[Particle]) -> Bounds
     requires bodies { (k : ℕ) (d : Particle) → k < length particles.now → IsBody (slice_index_or particles.now k d) }
     requires some { 1 ≤ length particles.now }
@@ -72,7 +70,7 @@ fn least_density(bounds: Bounds) -> u128
     ensures { result ≡ least_density bounds }
 {
     let h = u128::from(bounds.h.1);
-    (u128::from(bounds.mass.0) * KERNEL_CONSTANT << 38) / (h * h * h)
+    (u128::from(bounds.mass.0) * u128::from(KERNEL_CONSTANT) << 38) / (h * h * h)
 }
 
 /// No pressure over the square of a density is more.
@@ -93,7 +91,7 @@ fn greatest_factor(sound: u32, bounds: Bounds) -> u128
     let mass = u128::from(bounds.mass.1);
     let ghost_term = greatest_ghost(sound, bounds);
     let h = u128::from(bounds.h.0);
-    (mass * mass * ghost_term * KERNEL_CONSTANT * 12_288 << 20) / (h * h * h * h * h)
+    (mass * mass * ghost_term * u128::from(KERNEL_CONSTANT) * 12_288 << 20) / (h * h * h * h * h)
 }
 
 /// No component of a force is more.

@@ -12,7 +12,7 @@ pub struct StdSource<R: Read> {
     faults: u64,
 }
 
-/// A sink over a writer of std: one write and one flush a call.
+/// A sink over a writer of std: one write and one flush a call. A write that takes nothing is a fault.
 #[derive(Debug, Drop)]
 pub struct StdSink<W: Write> {
     writer: W,
@@ -56,7 +56,7 @@ impl<W: Write> Sink for StdSink<W> {
 
     fn give(&mut self, bytes: &[u8]) -> Result<usize, Failed> {
         let count = counted(self.writer.write(bytes), &mut self.faults)?;
-        if count == 0 && !bytes.is_empty() {
+        if count == 0 {
             return counted(Err(Failed), &mut self.faults);
         }
         counted(self.writer.flush(), &mut self.faults)?;

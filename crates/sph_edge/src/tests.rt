@@ -4,6 +4,7 @@ use crate::{
     read_whole, write_whole,
 };
 use std::alloc::{AllocError, Global};
+use std::io::{self, Write};
 use std::test::Fail;
 
 /// The bytes 0, 1, 2 and so on.
@@ -61,4 +62,29 @@ fn works_over_std(rt: HostRuntime) -> Result<(), Fail> {
     assert_eq!(rt; written, bytes);
     NoGate.pass(0, 0);
     Ok(())
+}
+
+/// A writer that takes all and counts its flushes.
+#[derive(Drop)]
+struct FlushCounter(u32);
+
+impl Write for FlushCounter {
+    fn write(&mut self, bytes: &[u8]) -> io::Result<usize> {
+        Ok(bytes.len())
+    }
+
+    fn flush(&mut self) -> io::Result<()> {
+        self.0 = self.0.saturating_add(1);
+        Ok(())
+    }
+}
+
+/// No contract can say that a flush happens.
+#[test]
+fn flushes_each_piece(rt: HostRuntime) {
+    let mut writer = FlushCounter(0);
+    let mut sink = StdSink::new(&mut writer);
+    assert_eq!(rt; write_whole(&mut sink, b"one"), Ok(()));
+    assert_eq!(rt; write_whole(&mut sink, b"two"), Ok(()));
+    assert_eq!(rt; writer.0, 2);
 }

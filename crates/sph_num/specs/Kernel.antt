@@ -6,7 +6,7 @@ abbrev pub greatest_passing : (ℕ → Bool) → ℕ → ℕ
 greatest_passing passes zero = 0
 greatest_passing passes (suc n) = if passes (suc n) then suc n else greatest_passing passes n
 
--- the distance in 1024ths of h, rounded down: the greatest s with s²·h² <= 2^20·r2, which is no more than 2^20·r2
+-- the distance in 1024ths of h, rounded down: the greatest s with s²·h² <= 2^20·r2. It is sought from 2^20·r2 down: no s above that passes.
 unfoldable pub root_of : ℕ → ℕ → ℕ
 root_of r2 h = greatest_passing (λ s. nat_le ((s * s) * (h * h)) (2 ^ 20 * r2)) (2 ^ 20 * r2)
 
@@ -16,7 +16,7 @@ kernel_w s =
     if nat_le s 512 then (2 ^ 30 + 6 * (s * s * s)) - 6 * 2 ^ 10 * (s * s)
     else 2 * ((1024 - s) * (1024 - s) * (1024 - s))
 
--- 8 over pi, which makes the kernel's integral one, at a scale of 2^16
+-- 8 over pi at a scale of 2^16, which makes the kernel's integral one, but for the rounding
 abbrev pub kernel_constant : ℕ
 kernel_constant = 166886
 

@@ -6,7 +6,7 @@ ghost use Rattle.sph_num.specs.Ranges.{IsMass, IsLength};
 use crate::kernel::{Tables, root};
 
 /// The kernel's constant, 8 over pi at a scale of 2^16.
-const KERNEL_CONSTANT: u64 = 166_886;
+pub const KERNEL_CONSTANT: u64 = 166_886;
 
 /// What a mass adds to the density at a particle of smoothing length `h`, from the square `r2` of
 /// their distance. In two divisions of 64 bits, since the numerator can have 72.

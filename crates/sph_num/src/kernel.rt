@@ -37,6 +37,7 @@ pub struct Tables {
 }
 
 impl Tables {
+    /// The tables, 8 KiB of them; fails only for want of memory.
     pub fn new(alloc: Global) -> Result<Tables, AllocError> {
         let mut w = Vec::with_capacity(alloc, 1025)?;
         for s in 0..1025 {

@@ -7,7 +7,7 @@ mod list;
 mod particle;
 mod space;
 
-pub use density::density_part;
+pub use density::{KERNEL_CONSTANT, density_part};
 pub use kernel::{Tables, root};
 pub use list::ParticleList;
 pub use particle::{Bounds, Params, Particle};

@@ -20,24 +20,28 @@ impl Model for ParticleList {
 impl ParticleList {
     ghost use Rattle.std.specs.Prelude.{◌≡◌, length, slice_get, option_copied};
 
+    /// The list of these particles, in their order.
     pub fn from_vec(items: Vec<Particle>) -> ParticleList
         ensures { result ≡ items.items }
     {
         ParticleList { items }
     }
 
+    /// The particles as a slice.
     pub fn as_slice(&self) -> &[Particle]
         ensures { result.now ≡ self.now }
     {
         self.items.as_slice()
     }
 
+    /// How many particles there are.
     pub fn len(&self) -> usize
         ensures { result ≡ length self.now }
     {
         self.items.len()
     }
 
+    /// The particle at an index from 0, if there is one.
     pub fn get(&self, i: usize) -> Option<&Particle>
         ensures { option_copied result ≡ slice_get self.now i }
     {

@@ -37,7 +37,7 @@ Rests-follows_read words source source' out out' bytes Done read short follows =
     (follows.0, record { bytes = bytes; read = read; first = follows.1 }, follows.2)
 Rests-follows_read words source source' out out' bytes (DeckRefused fault) read short follows =
     record { not_toml = follows.0; bytes = bytes; read = read; short = short; stands = follows.1 }
-Rests-follows_read words source source' out out' bytes NotBuilt read short follows = inr (inr (record { bytes = bytes; read = read; other = follows }))
+Rests-follows_read words source source' out out' bytes NotBuilt read short follows = inr (inr (record { bytes = bytes; read = read; short = short; other = follows }))
 Rests-follows_read words source source' out out' bytes ReadFault read short follows = absurd follows
 Rests-follows_read words source source' out out' bytes WriteFault read short follows =
     (follows.0, record { bytes = bytes; read = read; first = follows.1 }, follows.2)

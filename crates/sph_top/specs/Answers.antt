@@ -61,7 +61,13 @@ pub record IsDeckTooLong (words : List (String Global)) (source source' : Seen) 
 pub record IsDeckOther (words : List (String Global)) (source source' : Seen) : Type 0 where
   pub bytes : List ℕ
   pub read : WasRead words source source' bytes
+  pub short : length bytes ≤ longest_text
   pub other : IsOtherThanFirst bytes
+
+-- what isn't built yet: words that are no job, and decks that are no first decks
+abbrev pub IsNotBuilt : List (String Global) → Seen → Seen → Type 0
+IsNotBuilt words source source' =
+    (NamesRun words → ⊥) ⊎ IsDeckTooLong words source source' ⊎ IsDeckOther words source source'
 
 -- nothing was appended, or, where a first deck was read, some of its stream's first bytes
 abbrev pub AppendsSome : List (String Global) → Seen → Seen → Seen → Seen → Type 0
@@ -79,8 +85,7 @@ AppendsToAnEnd words source source' out out' =
 abbrev pub IsCaused : Status → List (String Global) → Seen → Seen → Seen → Seen → Type 0
 IsCaused Done words source source' out out' = ⊥
 IsCaused (DeckRefused fault) words source source' out out' = IsDeckRefused fault words source source'
-IsCaused NotBuilt words source source' out out' =
-    (NamesRun words → ⊥) ⊎ IsDeckTooLong words source source' ⊎ IsDeckOther words source source'
+IsCaused NotBuilt words source source' out out' = IsNotBuilt words source source'
 IsCaused ReadFault words source source' out out' = NamesRun words × Rose source.faults source'.faults
 IsCaused WriteFault words source source' out out' = Rose out.faults out'.faults × AppendsSome words source source' out out'
 IsCaused NoMemory words source source' out out' = AppendsToAnEnd words source source' out out'

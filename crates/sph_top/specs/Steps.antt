@@ -10,7 +10,7 @@ use Rattle.sph_edge.specs.Bytes.{AppendsPrefix}
 use Rattle.sph_edge.specs.Causes.{Rose}
 use Rattle.sph_top.specs.declared.status.Status.{Status}
 use Rattle.sph_top.specs.declared.status.Status.TheVariants.{Done, DeckRefused, NotBuilt, ReadFault, WriteFault, NoMemory}
-use Rattle.sph_top.specs.Answers.{Seen, ReadsFirst, IsDeckRefused, IsDeckTooLong, IsDeckOther, AppendsToAnEnd}
+use Rattle.sph_top.specs.Answers.{Seen, ReadsFirst, IsDeckRefused, IsNotBuilt, AppendsToAnEnd}
 use Rattle.sph_top.specs.Lines.{error_line}
 use Rattle.sph_top.specs.Snapshot.{stream_of}
 use Rattle.sph_top.specs.Words.{NamesRun}
@@ -36,8 +36,7 @@ abbrev pub Rests : Status → List (String Global) → Seen → Seen → Seen �
 Rests Done words source source' out out' =
     (deck : Deck) × ReadsFirst words source source' deck × Writes (stream_of deck.particles) Done out out'
 Rests (DeckRefused fault) words source source' out out' = IsDeckRefused fault words source source'
-Rests NotBuilt words source source' out out' =
-    (NamesRun words → ⊥) ⊎ IsDeckTooLong words source source' ⊎ IsDeckOther words source source'
+Rests NotBuilt words source source' out out' = IsNotBuilt words source source'
 Rests ReadFault words source source' out out' = NamesRun words × Rose source.faults source'.faults
 Rests WriteFault words source source' out out' =
     (deck : Deck) × ReadsFirst words source source' deck × Writes (stream_of deck.particles) WriteFault out out'

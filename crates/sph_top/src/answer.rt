@@ -7,7 +7,7 @@ ghost use Rattle.sph_deck.specs.declared.deck.Deck.{Deck};
 ghost use Rattle.sph_deck.specs.declared.fault.DeckFault.{DeckFault};
 ghost use Rattle.sph_deck.specs.declared.fault.DeckFault.TheVariants.{NotToml};
 ghost use Rattle.sph_edge.specs.Causes.{Rose, Stayed};
-ghost use Rattle.sph_top.specs.Answers.{seen, IsDone, IsDeckRefused, IsDeckTooLong, IsDeckOther, AppendsSome, AppendsToAnEnd, IsWithoutOutput, TellsWriteFault, Yields};
+ghost use Rattle.sph_top.specs.Answers.{seen, IsDone, IsDeckRefused, IsNotBuilt, AppendsSome, AppendsToAnEnd, IsWithoutOutput, TellsWriteFault, Yields};
 ghost use Rattle.sph_top.specs.Lines.{error_line};
 ghost use Rattle.sph_top.specs.Steps.{Rests};
 ghost use Rattle.sph_top.specs.Words.{NamesRun};
@@ -25,7 +25,8 @@ use std::thread::Threads;
 /// writes the line of a refusal to `err`.
 ///
 /// So far the one job is `run`, and it runs first decks: accepted decks with `ticks = 0` and
-/// `bin_max = 0`. Other words and decks are answered by `NotBuilt`.
+/// `bin_max = 0`. Other words and decks are answered by `NotBuilt`. `_rt` and `_gate` are for the jobs
+/// that run on several threads.
 pub fn swiftq<R: Threads + Sync, S: Source, O: Sink, E: Sink, G: Gate>(
     _rt: &R,
     alloc: Global,
@@ -47,9 +48,8 @@ pub fn swiftq<R: Threads + Sync, S: Source, O: Sink, E: Sink, G: Gate>(
         → Yields (Status.DeckRefused NotToml) result (seen E.held E.faults err.old) (seen E.held E.faults err.new) }
 
     // What isn't built yet: words that are no job, and then nothing is read, and decks that are no first decks.
-    ensures not_built { result ≡ Status.NotBuilt → (NamesRun words.now → ⊥)
-        ⊎ IsDeckTooLong words.now (seen S.left S.faults source.old) (seen S.left S.faults source.new)
-        ⊎ IsDeckOther words.now (seen S.left S.faults source.old) (seen S.left S.faults source.new) }
+    ensures not_built { result ≡ Status.NotBuilt
+        → IsNotBuilt words.now (seen S.left S.faults source.old) (seen S.left S.faults source.new) }
     ensures not_built_for_words { (NamesRun words.now → ⊥)
         → Yields Status.NotBuilt result (seen E.held E.faults err.old) (seen E.held E.faults err.new) }
     ensures nothing_read_for_words { (NamesRun words.now → ⊥) → source.new ≡ source.old }

@@ -1,0 +1,4 @@
+pub mod Ring
+pub mod Ends
+pub mod Gaps
+pub mod Nesting

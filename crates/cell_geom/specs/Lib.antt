@@ -1,0 +1,3 @@
+pub use Rattle.sph_num.specs.Space
+pub mod Cube
+pub mod Gap

@@ -1,0 +1,114 @@
+//! A cube, the points that it holds and the cubes that lie in it.
+ghost use Rattle.std.specs.Prelude.{◌≡◌, ◌<◌, ◌↔◌, IsTrue};
+ghost use Rattle.sph_num.specs.Space.{IsPlace};
+
+/// One of the `2^level` cubes along each axis, at this place among them.
+#[derive(Clone, Copy, Debug, PartialEq, Eq)]
+pub struct Cube {
+    /// From 0, the whole box, to 10.
+    pub level: u32,
+    /// The number of cubes below it on each axis: less than `2^level`.
+    pub at: [u32; 3],
+}
+
+ghost use Rattle.cell_geom.specs.Cube.{IsCube, cube_holds, octant_of, child_of, CubeContains};
+
+/// Whether the cube holds the point.
+pub fn holds(cube: Cube, point: [u32; 3]) -> bool
+    requires cube { IsCube cube }
+    requires point { IsPlace point }
+    ensures { IsTrue result ↔ cube_holds cube point }
+{
+    let shift = 20 - cube.level;
+    point[0] >> shift == cube.at[0]
+        && point[1] >> shift == cube.at[1]
+        && point[2] >> shift == cube.at[2]
+}
+
+/// The octant of the cube in which a point of it lies: bit 0 for x, bit 1 for y, bit 2 for z.
+pub fn octant(cube: Cube, point: [u32; 3]) -> u32
+    requires cube { IsCube cube }
+    requires point { IsPlace point }
+    requires held { cube_holds cube point }
+    requires splits { cube.level < 10 }
+    ensures value { result ≡ octant_of cube.level point }
+    ensures below { result < 8 }
+    ensures held { cube_holds (child_of cube result) point }
+{
+    let child_level = cube.level + 1;
+    let shift = 20 - child_level;
+    (point[0] >> shift) % 2 + 2 * ((point[1] >> shift) % 2) + 4 * ((point[2] >> shift) % 2)
+}
+
+/// The cube of an octant.
+pub fn child(cube: Cube, octant: u32) -> Cube
+    requires cube { IsCube cube }
+    requires splits { cube.level < 10 }
+    requires octant { octant < 8 }
+    ensures value { result ≡ child_of cube octant }
+    ensures cube { IsCube result }
+    ensures inside { CubeContains cube result }
+{
+    Cube {
+        level: cube.level + 1,
+        at: [
+            2 * cube.at[0] + octant % 2,
+            2 * cube.at[1] + octant / 2 % 2,
+            2 * cube.at[2] + octant / 4 % 2,
+        ],
+    }
+}
+
+/// Whether the inner cube lies in the outer one, or is the same.
+pub fn contains(outer: Cube, inner: Cube) -> bool
+    requires outer { IsCube outer }
+    requires inner { IsCube inner }
+    ensures { IsTrue result ↔ CubeContains outer inner }
+{
+    if outer.level > inner.level {
+        return false;
+    }
+    let shift = inner.level - outer.level;
+    inner.at[0] >> shift == outer.at[0]
+        && inner.at[1] >> shift == outer.at[1]
+        && inner.at[2] >> shift == outer.at[2]
+}
+
+#[cfg(test)]
+mod tests {
+    use super::*;
+
+    const BOX: Cube = Cube {
+        level: 0,
+        at: [0; 3],
+    };
+
+    const HALF: Cube = Cube {
+        level: 1,
+        at: [1, 0, 1],
+    };
+
+    const QUARTER: Cube = Cube {
+        level: 2,
+        at: [2, 1, 3],
+    };
+
+    #[test]
+    fn holds_the_points_of_each_axis(rt: HostRuntime) {
+        assert!(rt; holds(HALF, [524_288, 524_287, 1_048_575]));
+        assert!(rt; !holds(HALF, [524_287, 524_287, 1_048_575]));
+        assert!(rt; !holds(HALF, [524_288, 524_288, 1_048_575]));
+        assert!(rt; !holds(HALF, [524_288, 524_287, 524_287]));
+    }
+
+    #[test]
+    fn nests_octants(rt: HostRuntime) {
+        let point = [524_288, 524_287, 1_048_575];
+        assert!(rt; holds(BOX, point));
+        assert_eq!(rt; octant(BOX, point), 5);
+        assert_eq!(rt; child(BOX, 5), HALF);
+        assert_eq!(rt; child(HALF, 6), QUARTER);
+        assert!(rt; contains(HALF, QUARTER));
+        assert!(rt; !contains(QUARTER, HALF));
+    }
+}

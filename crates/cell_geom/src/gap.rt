@@ -1,0 +1,94 @@
+//! The gap between two cubes.
+ghost use Rattle.std.specs.Prelude.{◌≡◌, ◌<◌, ◌≤◌, ◌^◌, ℕ};
+ghost use Rattle.cell_geom.specs.Cube.{IsCube};
+ghost use Rattle.cell_geom.specs.Gap.{IsGap2, KeepsGap, AreEnds, IsAxisGap, slackened};
+
+use crate::cube::Cube;
+
+/// The side of the box, in length units.
+const SIDE: u32 = 1 << 20;
+
+/// The square of the gap of two cubes, in squares of length units, where a point of each may have moved
+/// by the slack on each axis.
+pub fn gap2(a: Cube, b: Cube, slack: u32) -> u64
+    requires a { IsCube a }
+    requires b { IsCube b }
+    requires slack { slack ≤ 65535 }
+    ensures value { IsGap2 a b slack result }
+    ensures law { KeepsGap a b slack result }
+    ensures small { result < 2 ^ 40 }
+{
+    axis_gap2(a, b, 0, slack) + axis_gap2(a, b, 1, slack) + axis_gap2(a, b, 2, slack)
+}
+
+/// What one axis adds.
+fn axis_gap2(a: Cube, b: Cube, axis: usize, slack: u32) -> u64
+    requires a { IsCube a }
+    requires b { IsCube b }
+    requires axis { axis < 3 }
+    requires slack { slack ≤ 65535 }
+    ensures value { (gap : ℕ) × IsAxisGap a b axis gap × (slackened gap slack ≡ result) }
+    ensures small { result ≤ 2 ^ 38 }
+{
+    let gap = u64::from(axis_gap(a, b, axis).saturating_sub(2 * slack));
+    gap * gap
+}
+
+/// The least distance of a coordinate of the one cube from one of the other: between the ends that face
+/// each other, or those that do so across the periodic face.
+fn axis_gap(a: Cube, b: Cube, axis: usize) -> u32
+    requires a { IsCube a }
+    requires b { IsCube b }
+    requires axis { axis < 3 }
+    ensures value { IsAxisGap a b axis result }
+    ensures small { result ≤ 2 ^ 19 }
+{
+    let (a_first, a_last) = ends(a, axis);
+    let (b_first, b_last) = ends(b, axis);
+    if a_last < b_first {
+        (b_first - a_last).min(a_first + SIDE - b_last)
+    } else if b_last < a_first {
+        (a_first - b_last).min(b_first + SIDE - a_last)
+    } else {
+        0
+    }
+}
+
+/// The first and the last coordinate of the cube on an axis.
+fn ends(cube: Cube, axis: usize) -> (u32, u32)
+    requires cube { IsCube cube }
+    requires axis { axis < 3 }
+    ensures { AreEnds cube axis result.0 result.1 }
+{
+    let shift = 20 - cube.level;
+    let first = cube.at[axis] << shift;
+    (first, first + (1 << shift) - 1)
+}
+
+#[cfg(test)]
+mod tests {
+    use super::*;
+
+    #[test]
+    fn takes_the_nearer_way_round(rt: HostRuntime) {
+        let first = Cube {
+            level: 10,
+            at: [0; 3],
+        };
+        for (x, slack, want) in [
+            (0, 0, 0),
+            (1, 0, 1),
+            (2, 0, 1_050_625),
+            (2, 1, 1_046_529),
+            (1023, 0, 1),
+            (1022, 1, 1_046_529),
+        ] {
+            assert!(rt; x < 1024 && slack <= 1);
+            let other = Cube {
+                level: 10,
+                at: [x, 0, 0],
+            };
+            assert_eq!(rt; gap2(first, other, slack), want, "at {x}, {slack}");
+        }
+    }
+}
