@@ -1,17 +1,18 @@
 -- The array of particles.
-use Rattle.std.proofs.Common.{◌≡◌, List, [], ◌∷◌, map, length, Option, Some, None, Ok, Err, refl, ap, ◌∙◌, inl}
+use Rattle.std.proofs.Common.{◌≡◌, ℕ, List, [], ◌∷◌, map, length, Option, Some, None, Result, Ok, Err, MatchResult, refl, sym, ap, subst, ◌∙◌, inl}
 use Rattle.std.proofs.lemmas.Bool.{false≢true}
 use Rattle.std.proofs.lemmas.List.{length-map}
 use Rattle.toml.specs.Data.{Data, array, Items, Members, as_array}
 use Rattle.toml.specs.View.{view, items_view}
 use Rattle.toml.specs.declared.value.Value.{Value}
 use Rattle.sph_deck.specs.declared.fault.DeckFault.{DeckFault}
-use Rattle.sph_deck.specs.declared.fault.DeckFault.TheVariants.{Missing, WrongKind}
+use Rattle.sph_deck.specs.declared.fault.DeckFault.TheVariants.{Missing, WrongKind, NoParticles, TooMany}
 use Rattle.sph_deck.specs.declared.key.Key.TheVariants.{Particle}
 use Rattle.sph_deck.specs.Document.{value_at, elements, elements_at, list_of_items}
-use Rattle.sph_deck.specs.Faults.{HasElements, StandsInTable}
+use Rattle.sph_deck.specs.Faults.{StandsInTable}
 use Rattle.sph_deck.specs.Judged.{place_of}
-use Rattle.sph_deck.specs.Rows.{judged_array, judged_items}
+use Rattle.sph_deck.specs.Meets.{Meets}
+use Rattle.sph_deck.specs.Rows.{judged_array, judged_items, IsArrayFault, IsCountFault}
 
 -- an array's elements are its values' data
 list_of_items-view : (values : List Value) → list_of_items (items_view values) ≡ map view values
@@ -41,11 +42,17 @@ found_of (Some value) items h = ap Some (array_is value items (items_found value
 pub array_found : (top : Members) (items : Items) → judged_array (value_at Particle top) ≡ Ok items → value_at Particle top ≡ Some (array items)
 array_found top items h = found_of (value_at Particle top) items h
 
--- there are as many elements as values
-pub has_elements : (top : Members) (values : List Value) → judged_array (value_at Particle top) ≡ Ok (items_view values) → HasElements top (length values)
-has_elements top values h =
-    let found = array_found top (items_view values) h in
-    record { items = items_view values; found = found; count_is = ap length (elements-found top values found) ∙ length-map values view }
+-- the faults of an array of so many elements
+pub meets_count : {a b : Option DeckFault} (top : Members) (values : List Value) → judged_array (value_at Particle top) ≡ Ok (items_view values) → Meets (IsCountFault (length values)) a b → Meets (IsArrayFault top) a b
+meets_count {a} {b} top values is m =
+    let count : length (list_of_items (items_view values)) ≡ length values = ap length (list_of_items-view values) ∙ length-map values view in
+    let P : ℕ → Type 0 = λ n. Meets (IsCountFault n) a b in
+    let Q : Result Items DeckFault → Type 0 = λ r. Meets (λ fault. MatchResult r (λ items. IsCountFault (length (list_of_items items)) fault) (λ wrong. fault ≡ wrong)) a b in
+    subst Q (sym is) (subst P (sym count) m)
+
+-- an array that was judged has its elements
+pub elements_judged : (top : Members) (values : List Value) → judged_array (value_at Particle top) ≡ Ok (items_view values) → elements top ≡ map view values
+elements_judged top values h = elements-found top values (array_found top (items_view values) h)
 
 -- a value that has no items is of a wrong kind
 no_array : (value : Data) (o : Option Items) (fault : DeckFault) → as_array value ≡ o → judged_items o ≡ Err fault → (o ≡ None) × (WrongKind (place_of Particle 0) ≡ fault)
@@ -62,6 +69,18 @@ fault_of top (Some value) fault is h =
     rw (← same)
     (inl (record { key = Particle; table = top; at = record { number = refl; own = refl; row = refl }; value = value; found = is; wrong = λ some. false≢true (rw none at some) }))
 
--- a fault that was judged at the key stands
-pub fault_of_array : (top : Members) (fault : DeckFault) → judged_array (value_at Particle top) ≡ Err fault → StandsInTable top fault
-fault_of_array top fault h = fault_of top (value_at Particle top) fault refl h
+-- a fault of the array stands, by what is judged at its key
+fault_by : (top : Members) (fault : DeckFault) (r : Result Items DeckFault) → judged_array (value_at Particle top) ≡ r → MatchResult r (λ items. IsCountFault (length (list_of_items items)) fault) (λ wrong. fault ≡ wrong)
+    → StandsInTable top fault
+fault_by top fault (Err wrong) is h = rw h (fault_of top (value_at Particle top) wrong refl is)
+fault_by top NoParticles (Ok items) is h =
+    let found = array_found top items is in
+    record { items = items; found = found; count_is = ap (λ v. length (elements_at v)) found ∙ h }
+fault_by top (TooMany many) (Ok items) is h =
+    let found = array_found top items is in
+    (record { items = items; found = found; count_is = ap (λ v. length (elements_at v)) found ∙ h.0 }, rw (← h.0) h.1)
+fault_by top _ (Ok items) is h = absurd h
+
+-- so it stands
+pub fault_of_array : (top : Members) (fault : DeckFault) → IsArrayFault top fault → StandsInTable top fault
+fault_of_array top fault h = fault_by top fault (judged_array (value_at Particle top)) refl h

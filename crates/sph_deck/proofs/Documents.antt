@@ -1,18 +1,20 @@
--- The faults and the deck of a document.
-use Rattle.std.proofs.Common.{◌≡◌, ℕ, ◌≤◌, List, length, ◌∙◌, subst, arith}
+-- The first fault, or the deck, of a document.
+use Rattle.std.proofs.Common.{◌≡◌, ℕ, ◌≤◌, List, length, Err, ◌∙◌, subst, arith}
 use Rattle.sph_num.specs.declared.particle.Params.{Params}
 use Rattle.sph_num.specs.declared.particle.Particle.{Particle}
 use Rattle.toml.specs.Data.{Members}
 use Rattle.sph_deck.specs.declared.deck.Deck.{Deck}
 use Rattle.sph_deck.specs.declared.fault.DeckFault.{DeckFault}
-use Rattle.sph_deck.specs.declared.fault.DeckFault.TheVariants.{TooLong, NotToml, BadEvery, BadTicks, BadBins, Sums}
+use Rattle.sph_deck.specs.declared.fault.DeckFault.TheVariants.{TooLong, NotToml, Unknown, Missing, WrongKind, OutOfRange, NoParticles, TooMany, BadEvery, BadTicks, BadBins, Sums}
+use Rattle.sph_deck.specs.declared.refusal.DeckRefusal.{DeckRefusal}
+use Rattle.sph_deck.specs.declared.refusal.DeckRefusal.TheVariants.{Fault, Memory}
 use Rattle.sph_deck.specs.Accepted.{AreAccepted}
 use Rattle.sph_deck.specs.Agreement.{Disagree}
-use Rattle.sph_deck.specs.Answers.{IsRefusedFor, IsAcceptedAs}
 use Rattle.sph_deck.specs.Document.{IsDocument, params_of, particles_of}
-use Rattle.sph_deck.specs.Faults.{IsAccepted, IsReadable, StandsInTable, Stands, longest_text}
-use Rattle.sph_deck.specs.Rows.{IsTableRead}
-use Rattle.sph_deck.proofs.Clean.{no_fault}
+use Rattle.sph_deck.specs.Faults.{IsAccepted, IsDeckOf, IsReadable, StandsInTable, Stands, longest_text}
+use Rattle.sph_deck.specs.FirstFault.{AnswersDeck, IsFirstFault, IsNoLater}
+use Rattle.sph_deck.specs.Meets.{IsFirst}
+use Rattle.sph_deck.specs.Rows.{IsRefusal, IsTableRead}
 
 -- the bytes are one document
 same_top : (bytes : List ℕ) (top other : Members) → IsDocument bytes top → IsDocument bytes other → other ≡ top
@@ -26,28 +28,43 @@ agree params particles (BadBins low high) accepted (a, b, bad) = let bins = acce
 agree params particles (Sums bound) accepted (a, bad) = let sums = accepted.sums in omega arith
 agree params particles _ accepted bad = bad
 
-module _ (bytes : List ℕ) (top : Members) (document : IsDocument bytes top) where
-  -- no fault stands in bytes that are short, clean and agree
-  accepted_in : length bytes ≤ longest_text → ((fault : DeckFault) → StandsInTable top fault → ⊥) → ((fault : DeckFault) → Disagree (params_of top) (particles_of top) fault → ⊥) → IsAccepted bytes
-  accepted_in short clean agreed TooLong h = omega arith
-  accepted_in short clean agreed NotToml h = h top document
-  accepted_in short clean agreed (BadEvery every unit) (other, readable, a, b, bad) =
-      let P : Members → Type 0 = λ t. Disagree (params_of t) (particles_of t) (BadEvery every unit) in
-      agreed (BadEvery every unit) (subst P (same_top bytes top other document readable.document) (a, b, bad))
-  accepted_in short clean agreed (BadTicks ticks every) (other, readable, a, b, bad) =
-      let P : Members → Type 0 = λ t. Disagree (params_of t) (particles_of t) (BadTicks ticks every) in
-      agreed (BadTicks ticks every) (subst P (same_top bytes top other document readable.document) (a, b, bad))
-  accepted_in short clean agreed (BadBins low high) (other, readable, a, b, bad) =
-      let P : Members → Type 0 = λ t. Disagree (params_of t) (particles_of t) (BadBins low high) in
-      agreed (BadBins low high) (subst P (same_top bytes top other document readable.document) (a, b, bad))
-  accepted_in short clean agreed (Sums bound) (other, readable, a, bad) =
-      let P : Members → Type 0 = λ t. Disagree (params_of t) (particles_of t) (Sums bound) in
-      agreed (Sums bound) (subst P (same_top bytes top other document readable.document) (a, bad))
-  accepted_in short clean agreed fault h =
+module _ (bytes : List ℕ) (top : Members) (document : IsDocument bytes top) (short : length bytes ≤ longest_text) where
+  -- what holds of each fault of the table, and of each between its numbers, holds of each fault of the bytes
+  standing : (Q : DeckFault → Type 0) → ((fault : DeckFault) → StandsInTable top fault → Q fault)
+      → (IsReadable bytes top → (fault : DeckFault) → Disagree (params_of top) (particles_of top) fault → Q fault) → (fault : DeckFault) → Stands bytes fault → Q fault
+  standing Q in_table between TooLong h = absurd (omega arith)
+  standing Q in_table between NotToml h = absurd (h top document)
+  standing Q in_table between (BadEvery every unit) (other, readable, a, b, bad) =
+      let P : Members → Type 0 = λ t. IsReadable bytes t × Disagree (params_of t) (particles_of t) (BadEvery every unit) in
+      let here = subst P (same_top bytes top other document readable.document) (readable, (a, b, bad)) in
+      between here.0 (BadEvery every unit) here.1
+  standing Q in_table between (BadTicks ticks every) (other, readable, a, b, bad) =
+      let P : Members → Type 0 = λ t. IsReadable bytes t × Disagree (params_of t) (particles_of t) (BadTicks ticks every) in
+      let here = subst P (same_top bytes top other document readable.document) (readable, (a, b, bad)) in
+      between here.0 (BadTicks ticks every) here.1
+  standing Q in_table between (BadBins low high) (other, readable, a, b, bad) =
+      let P : Members → Type 0 = λ t. IsReadable bytes t × Disagree (params_of t) (particles_of t) (BadBins low high) in
+      let here = subst P (same_top bytes top other document readable.document) (readable, (a, b, bad)) in
+      between here.0 (BadBins low high) here.1
+  standing Q in_table between (Sums bound) (other, readable, a, bad) =
+      let P : Members → Type 0 = λ t. IsReadable bytes t × Disagree (params_of t) (particles_of t) (Sums bound) in
+      let here = subst P (same_top bytes top other document readable.document) (readable, (a, bad)) in
+      between here.0 (Sums bound) here.1
+  standing Q in_table between fault h =
       let P : Members → Type 0 = λ t. StandsInTable t fault in
-      clean fault (subst P (same_top bytes top h.0 document h.1) h.2)
+      in_table fault (subst P (same_top bytes top h.0 document h.1) h.2)
 
-  -- numbers that disagree are a fault
+  -- a fault of the table stands in the bytes
+  table_stands : (fault : DeckFault) → StandsInTable top fault → Stands bytes fault
+  table_stands (Unknown place) h = (top, document, h)
+  table_stands (Missing place) h = (top, document, h)
+  table_stands (WrongKind place) h = (top, document, h)
+  table_stands (OutOfRange place z) h = (top, document, h)
+  table_stands NoParticles h = (top, document, h)
+  table_stands (TooMany count) h = (top, document, h)
+  table_stands _ h = absurd h
+
+  -- so does one between its numbers
   disagreement_stands : (fault : DeckFault) → IsReadable bytes top → Disagree (params_of top) (particles_of top) fault → Stands bytes fault
   disagreement_stands (BadEvery every unit) readable (a, b, bad) = (top, readable, a, b, bad)
   disagreement_stands (BadTicks ticks every) readable (a, b, bad) = (top, readable, a, b, bad)
@@ -55,23 +72,32 @@ module _ (bytes : List ℕ) (top : Members) (document : IsDocument bytes top) wh
   disagreement_stands (Sums bound) readable (a, bad) = (top, readable, a, bad)
   disagreement_stands _ readable h = absurd h
 
-  module _ (params : Params) (particles : List Particle) (short : length bytes ≤ longest_text) (read : IsTableRead top params particles) where
-    -- a table that was read is readable
-    readable : IsReadable bytes top
-    readable = record { short = short; document = document; clean = no_fault top read.clean }
+  -- the first fault of the table is that of the bytes
+  first_in_table : (fault : DeckFault) → IsFirst (StandsInTable top) fault → IsFirstFault bytes fault
+  first_in_table fault h = record {
+    stands = table_stands fault h.is_one;
+    first = standing (IsNoLater fault) h.first (λ readable other bad. absurd (readable.clean fault h.is_one));
+  }
 
-    -- bytes whose numbers disagree are refused
-    pub refused_for : (fault : DeckFault) → Disagree params particles fault → IsRefusedFor bytes fault
-    refused_for fault h = record {
-      stands = disagreement_stands fault readable (rw (← read.params_are, ← read.particles_are) h);
-      toml = λ other none. none top document;
-    }
+  -- so a refusal for the table is one of the bytes
+  pub refused_table : (refusal : DeckRefusal) → IsRefusal (IsFirst (StandsInTable top)) refusal → AnswersDeck bytes (Err refusal)
+  refused_table (Fault fault) h = first_in_table fault h
+  refused_table Memory h = tt
 
-    -- and those of an accepted deck are theirs
-    pub accepted_as : (deck : Deck) → deck.params ≡ params → deck.particles ≡ particles → IsAcceptedAs bytes deck
-    accepted_as deck same_params same_particles =
-        let accepted : AreAccepted (params_of top) (particles_of top) = rw (← read.params_are, ← read.particles_are, ← same_params, ← same_particles) deck.accepted in
+  module _ (params : Params) (particles : List Particle) (read : IsTableRead top params particles) where
+    -- the first fault between the numbers of a table without faults is that of the bytes
+    pub first_between : (fault : DeckFault) → IsFirst (Disagree params particles) fault → IsFirstFault bytes fault
+    first_between fault h =
+        let here : IsFirst (Disagree (params_of top) (particles_of top)) fault = rw (← read.params_are, ← read.particles_are) h in
         record {
-          accepted = accepted_in short (no_fault top read.clean) (λ fault. agree (params_of top) (particles_of top) fault accepted);
-          numbers = record { top = top; document = document; params = same_params ∙ read.params_are; particles = same_particles ∙ read.particles_are };
+          stands = disagreement_stands fault (record { short = short; document = document; clean = read.none }) here.is_one;
+          first = standing (IsNoLater fault) (λ other bad. absurd (read.none other bad)) (λ readable other bad. here.first other bad);
         }
+
+    -- without such a fault the bytes are accepted, and the deck's numbers are theirs
+    pub accepted_as : (deck : Deck) → deck.params ≡ params → deck.particles ≡ particles → IsAccepted bytes × IsDeckOf bytes deck
+    accepted_as deck same_params same_particles =
+        let accepted : AreAccepted (params_of top) (particles_of top) = rw (← read.params_are, ← read.particles_are, ← same_params, ← same_particles) deck.accepted in (
+          standing (λ _. ⊥) read.none (λ readable fault. agree (params_of top) (particles_of top) fault accepted),
+          record { top = top; document = document; params = same_params ∙ read.params_are; particles = same_particles ∙ read.particles_are },
+        )

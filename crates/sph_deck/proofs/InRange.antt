@@ -12,7 +12,7 @@ use Rattle.sph_deck.specs.Agreement.{AreInRange}
 use Rattle.sph_deck.specs.Document.{elements, integer_at, whole_at, params_of, particle_of, particles_of}
 use Rattle.sph_deck.specs.Judged.{IsReadAt, IsWithin}
 use Rattle.sph_deck.specs.Keys.{range_of}
-use Rattle.sph_deck.specs.Row.{IsCleanRow}
+use Rattle.sph_deck.specs.Row.{AreNumbersRead}
 use Rattle.sph_deck.specs.Rows.{IsCleanTable}
 use Rattle.sph_deck.proofs.Numbers.{integer_at_read}
 
@@ -42,18 +42,18 @@ momentum_within key table ranges (z, read) =
     subst Q (sym (integer_at_read key table z read)) (component_within z (subst P ranges read.range))
 
 -- the parameters are in their ranges
-params_within : (top : Members) → IsCleanRow true top → AreParamsInRange (params_of top)
-params_within top clean =
-    let ticks = whole_within Ticks top 0 65536 refl (clean.numbers Ticks refl refl) in
-    let every = whole_within Every top 1 65536 refl (clean.numbers Every refl refl) in
-    let bin_min = whole_within BinMin top 0 10 refl (clean.numbers BinMin refl refl) in
-    let bin_max = whole_within BinMax top 0 10 refl (clean.numbers BinMax refl refl) in
-    let sound = whole_within Sound top 1 65536 refl (clean.numbers Sound refl refl) in
-    let shift = whole_within Shift top 0 60 refl (clean.numbers Shift refl refl) in
-    let accuracy = whole_within Accuracy top 0 4294967295 refl (clean.numbers Accuracy refl refl) in
-    let leaf = whole_within Leaf top 1 256 refl (clean.numbers Leaf refl refl) in
-    let pairs = whole_within Pairs top 1 1073741824 refl (clean.numbers Pairs refl refl) in
-    let slack = whole_within Slack top 0 65535 refl (clean.numbers Slack refl refl) in
+params_within : (top : Members) → AreNumbersRead true top → AreParamsInRange (params_of top)
+params_within top numbers =
+    let ticks = whole_within Ticks top 0 65536 refl (numbers Ticks refl refl) in
+    let every = whole_within Every top 1 65536 refl (numbers Every refl refl) in
+    let bin_min = whole_within BinMin top 0 10 refl (numbers BinMin refl refl) in
+    let bin_max = whole_within BinMax top 0 10 refl (numbers BinMax refl refl) in
+    let sound = whole_within Sound top 1 65536 refl (numbers Sound refl refl) in
+    let shift = whole_within Shift top 0 60 refl (numbers Shift refl refl) in
+    let accuracy = whole_within Accuracy top 0 4294967295 refl (numbers Accuracy refl refl) in
+    let leaf = whole_within Leaf top 1 256 refl (numbers Leaf refl refl) in
+    let pairs = whole_within Pairs top 1 1073741824 refl (numbers Pairs refl refl) in
+    let slack = whole_within Slack top 0 65535 refl (numbers Slack refl refl) in
     record {
       ticks = ticks.1;
       every_low = every.0;
@@ -80,13 +80,13 @@ three_all : {A : Type 0} (P : A → Type 0) (a b c : A) → P a → P b → P c 
 three_all P a b c pa pb pc = All-cons P a (b ∷ c ∷ []) pa (All-cons P b (c ∷ []) pb (All-cons P c [] pc (All-nil P)))
 
 -- a particle's mass, length and place are in their ranges
-body_within : (table : Members) → IsCleanRow false table → IsBody (particle_of table)
-body_within table clean =
-    let mass = whole_within Mass table 1 65536 refl (clean.numbers Mass refl refl) in
-    let h = whole_within H table 1024 131072 refl (clean.numbers H refl refl) in
-    let x = whole_within X table 0 1048575 refl (clean.numbers X refl refl) in
-    let y = whole_within Y table 0 1048575 refl (clean.numbers Y refl refl) in
-    let z = whole_within Z table 0 1048575 refl (clean.numbers Z refl refl) in
+body_within : (table : Members) → AreNumbersRead false table → IsBody (particle_of table)
+body_within table numbers =
+    let mass = whole_within Mass table 1 65536 refl (numbers Mass refl refl) in
+    let h = whole_within H table 1024 131072 refl (numbers H refl refl) in
+    let x = whole_within X table 0 1048575 refl (numbers X refl refl) in
+    let y = whole_within Y table 0 1048575 refl (numbers Y refl refl) in
+    let z = whole_within Z table 0 1048575 refl (numbers Z refl refl) in
     record {
       mass = record { low = mass.0; high = mass.1 };
       h = record { low = h.0; high = h.1 };
@@ -94,12 +94,12 @@ body_within table clean =
     }
 
 -- so is its momentum
-momenta_within : (table : Members) → IsCleanRow false table → IsDeckMomentum (particle_of table)
-momenta_within table clean =
+momenta_within : (table : Members) → AreNumbersRead false table → IsDeckMomentum (particle_of table)
+momenta_within table numbers =
     three_all (λ p. unsigned_abs p < 2 ^ 63) _ _ _
-    (momentum_within Px table refl (clean.numbers Px refl refl))
-    (momentum_within Py table refl (clean.numbers Py refl refl))
-    (momentum_within Pz table refl (clean.numbers Pz refl refl))
+    (momentum_within Px table refl (numbers Px refl refl))
+    (momentum_within Py table refl (numbers Py refl refl))
+    (momentum_within Pz table refl (numbers Pz refl refl))
 
 -- what holds of each table holds of those that are there
 tables_all : (P : Members → Type 0) (elements : List Data) → All (λ element. IsSomeAnd (as_table element) P) elements → All P (filter_map as_table elements)
@@ -124,13 +124,13 @@ tables_count P (d ∷ ds) all =
 -- so all are in range
 pub numbers_within : (top : Members) → IsCleanTable top → AreInRange (params_of top) (particles_of top)
 numbers_within top clean =
-    let tables = tables_all (IsCleanRow false) (elements top) clean.rows in
+    let tables = tables_all (AreNumbersRead false) (elements top) clean.rows in
     let rows = filter_map as_table (elements top) in
-    let count = length-map rows particle_of ∙ tables_count (IsCleanRow false) (elements top) clean.rows in
+    let count = length-map rows particle_of ∙ tables_count (AreNumbersRead false) (elements top) clean.rows in
     record {
       params_in_range = params_within top clean.row;
-      bodies = λ k d low. All-map IsBody particle_of rows (All-weaker (IsCleanRow false) (λ t. IsBody (particle_of t)) body_within rows tables) k d low;
-      momenta = λ k d low. All-map IsDeckMomentum particle_of rows (All-weaker (IsCleanRow false) (λ t. IsDeckMomentum (particle_of t)) momenta_within rows tables) k d low;
+      bodies = λ k d low. All-map IsBody particle_of rows (All-weaker (AreNumbersRead false) (λ t. IsBody (particle_of t)) body_within rows tables) k d low;
+      momenta = λ k d low. All-map IsDeckMomentum particle_of rows (All-weaker (AreNumbersRead false) (λ t. IsDeckMomentum (particle_of t)) momenta_within rows tables) k d low;
       some = rw count clean.some;
       not_too_many = rw count clean.few;
     }

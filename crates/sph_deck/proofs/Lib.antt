@@ -1,11 +1,14 @@
+pub mod Order
+pub mod Walks
+pub mod RowsMet
 pub mod Names
-pub mod RowFaults
 pub mod Numbers
 pub mod Elements
 pub mod Array
 pub mod Standing
+pub mod Parts
 pub mod Tables
-pub mod Clean
 pub mod InRange
 pub mod Documents
+pub mod TextBound
 pub mod Extremes

@@ -6,7 +6,7 @@ use Rattle.sph_deck.specs.declared.key.Key.{Key}
 use Rattle.sph_deck.specs.declared.key.Key.TheVariants.{Ticks, Every, BinMin, BinMax, Sound, Shift, Accuracy, Leaf, Pairs, Slack, Mass, H, X, Y, Z, Px, Py, Pz}
 use Rattle.sph_deck.specs.Document.{integer_at, whole_at, nowhere}
 use Rattle.sph_deck.specs.Judged.{IsReadAt}
-use Rattle.sph_deck.specs.Row.{AreNamesKnown, AreNumbersRead}
+use Rattle.sph_deck.specs.Row.{AreNumbersRead}
 use Rattle.sph_deck.specs.Rows.{IsParticleRead, AreParamsRead}
 
 -- what was read at a key is the integer there
@@ -42,10 +42,9 @@ module _ (table : Members) (mass h x y z : ℕ) (px py pz : ℤ) (read : ArePart
   read_of_particle _ own wants = cc
 
   -- so the particle is the row's
-  pub particle_read : AreNamesKnown false table
-      → IsParticleRead table (record { mass = mass; h = h; x0 = x ∷ y ∷ z ∷ []; t0 = 0; p = px ∷ py ∷ pz ∷ []; q = px ∷ py ∷ pz ∷ []; f = nowhere; rho = 0; g = 0; bin = 0 })
-  particle_read names = record {
-    clean = record { names = names; numbers = read_of_particle };
+  pub particle_read : IsParticleRead table (record { mass = mass; h = h; x0 = x ∷ y ∷ z ∷ []; t0 = 0; p = px ∷ py ∷ pz ∷ []; q = px ∷ py ∷ pz ∷ []; f = nowhere; rho = 0; g = 0; bin = 0 })
+  particle_read = record {
+    numbers = read_of_particle;
     is =
         rw (
           whole_at_read Mass table mass read.at_mass,
@@ -88,9 +87,9 @@ module _ (top : Members) (params : Params) (read : AreParamsNumbers top params) 
   read_of_top _ own wants = cc
 
   -- so they are the top's
-  pub params_read : AreNamesKnown true top → AreParamsRead top params
-  params_read names = record {
-    clean = record { names = names; numbers = read_of_top };
+  pub params_read : AreParamsRead top params
+  params_read = record {
+    numbers = read_of_top;
     are =
         rw (
           whole_at_read Ticks top _ read.at_ticks,

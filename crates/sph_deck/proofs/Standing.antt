@@ -7,14 +7,12 @@ use Rattle.sph_deck.specs.declared.fault.DeckFault.{DeckFault}
 use Rattle.sph_deck.specs.declared.fault.DeckFault.TheVariants.{Missing, WrongKind, OutOfRange}
 use Rattle.sph_deck.specs.declared.key.Key.{Key}
 use Rattle.sph_deck.specs.declared.key.Key.TheVariants.{Particle}
-use Rattle.sph_deck.specs.declared.refusal.DeckRefusal.{DeckRefusal}
-use Rattle.sph_deck.specs.declared.refusal.DeckRefusal.TheVariants.{Fault, Memory}
 use Rattle.sph_deck.specs.Document.{value_at, elements, table_at}
 use Rattle.sph_deck.specs.Faults.{IsKeyOf, IsOfKind, StandsInTable}
 use Rattle.sph_deck.specs.Judged.{place_of, judged, judged_number, judged_integer, is_within}
 use Rattle.sph_deck.specs.Keys.{is_top, range_of}
 use Rattle.sph_deck.specs.Row.{IsRowFault, unknown_name, at_key}
-use Rattle.sph_deck.specs.Rows.{HasElementFault, IsRefusal}
+use Rattle.sph_deck.specs.Rows.{HasElementFault}
 
 -- a value that has an integer is that integer
 integer_is : (value : Data) (z : ℤ) → as_integer value ≡ Some z → value ≡ integer z
@@ -77,8 +75,3 @@ fault_by_table top i element fault (Some table) found is wrong =
 -- so does the fault of an element
 pub fault_of_elements : (top : Members) (fault : DeckFault) → HasElementFault (elements top) fault → StandsInTable top fault
 fault_of_elements top fault has = fault_by_table top has.index has.element fault (as_table has.element) has.found refl has.wrong
-
--- a refusal by faults of one kind, each of which is one of another kind
-pub refusal_weaker : (P Q : DeckFault → Type 0) (refusal : DeckRefusal) → ((fault : DeckFault) → P fault → Q fault) → IsRefusal P refusal → IsRefusal Q refusal
-refusal_weaker P Q (Fault fault) from h = from fault h
-refusal_weaker P Q Memory from h = tt

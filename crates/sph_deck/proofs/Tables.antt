@@ -1,17 +1,18 @@
 -- A table whose rows were read.
-use Rattle.std.proofs.Common.{◌≡◌, List, [], ◌∷◌, map, filter_map, Option, Some, None, IsSomeAnd, All, false, refl}
+use Rattle.std.proofs.Common.{◌≡◌, ◌≤◌, List, [], ◌∷◌, length, map, filter_map, Option, Some, None, IsSomeAnd, All, false, refl}
 use Rattle.std.proofs.lemmas.List.{length-map}
 use Rattle.std.proofs.lemmas.List.Elements.{All-nil, All-cons}
 use Rattle.std.specs.List.{cons_option}
 use Rattle.sph_num.specs.declared.particle.Params.{Params}
 use Rattle.sph_num.specs.declared.particle.Particle.{Particle as OneParticle}
 use Rattle.toml.specs.Data.{Members, as_table}
-use Rattle.toml.specs.View.{view, items_view}
+use Rattle.toml.specs.View.{view}
 use Rattle.toml.specs.declared.value.Value.{Value}
-use Rattle.sph_deck.specs.Document.{particle_of}
-use Rattle.sph_deck.specs.Row.{IsCleanRow}
-use Rattle.sph_deck.specs.Rows.{AreElementsRead, AreParamsRead, HasParticles, IsParticleRead, IsTableRead}
-use Rattle.sph_deck.proofs.Array.{elements-found}
+use Rattle.sph_deck.specs.declared.fault.DeckFault.{DeckFault}
+use Rattle.sph_deck.specs.Document.{elements, particle_of}
+use Rattle.sph_deck.specs.Faults.{most_particles, StandsInTable}
+use Rattle.sph_deck.specs.Row.{AreNumbersRead}
+use Rattle.sph_deck.specs.Rows.{AreElementsRead, AreParamsRead, IsParticleRead, IsTableRead}
 
 -- an element's particle comes first
 particle_first : (o : Option Members) (particle : OneParticle) (tables : List Members) (particles : List OneParticle) → IsSomeAnd o (λ table. IsParticleRead table particle) → particles ≡ map particle_of tables
@@ -27,30 +28,28 @@ particles_read (v ∷ vs) [] read = absurd read
 particles_read (v ∷ vs) (p ∷ ps) read = particle_first (as_table (view v)) p _ ps read.0 (particles_read vs ps read.1)
 
 -- an element that was read is clean
-clean_of : (o : Option Members) (particle : OneParticle) → IsSomeAnd o (λ table. IsParticleRead table particle) → IsSomeAnd o (IsCleanRow false)
+clean_of : (o : Option Members) (particle : OneParticle) → IsSomeAnd o (λ table. IsParticleRead table particle) → IsSomeAnd o (AreNumbersRead false)
 clean_of None particle read = read
-clean_of (Some table) particle read = read.clean
+clean_of (Some table) particle read = read.numbers
 
 -- all of them are
-rows_read : (values : List Value) (particles : List OneParticle) → AreElementsRead values particles → All (λ element. IsSomeAnd (as_table element) (IsCleanRow false)) (map view values)
-rows_read [] ps read = All-nil (λ element. IsSomeAnd (as_table element) (IsCleanRow false))
+rows_read : (values : List Value) (particles : List OneParticle) → AreElementsRead values particles → All (λ element. IsSomeAnd (as_table element) (AreNumbersRead false)) (map view values)
+rows_read [] ps read = All-nil (λ element. IsSomeAnd (as_table element) (AreNumbersRead false))
 rows_read (v ∷ vs) [] read = absurd read
 rows_read (v ∷ vs) (p ∷ ps) read =
-    All-cons (λ element. IsSomeAnd (as_table element) (IsCleanRow false)) (view v) (map view vs) (clean_of (as_table (view v)) p read.0) (rows_read vs ps read.1)
+    All-cons (λ element. IsSomeAnd (as_table element) (AreNumbersRead false)) (view v) (map view vs) (clean_of (as_table (view v)) p read.0) (rows_read vs ps read.1)
 
 -- the rows make the table
-pub table_read : (top : Members) (params : Params) (values : List Value) (particles : List OneParticle) → AreParamsRead top params → HasParticles top values → AreElementsRead values particles → IsTableRead top params particles
-table_read top params values particles own has read =
-    let e = elements-found top values has.found in
-    record {
-      clean = record {
-        row = own.clean;
-        items = items_view values;
-        found = has.found;
-        some = rw (e, length-map values view) has.some;
-        few = rw (e, length-map values view) has.few;
-        rows = rw e (rows_read values particles read);
-      };
-      params_are = own.are;
-      particles_are = rw e (particles_read values particles read);
-    }
+pub table_read : (top : Members) (params : Params) (values : List Value) (particles : List OneParticle) → AreParamsRead top params → elements top ≡ map view values → (1 ≤ length values) × (length values ≤ most_particles)
+    → AreElementsRead values particles → ((fault : DeckFault) → StandsInTable top fault → ⊥) → IsTableRead top params particles
+table_read top params values particles own e fits read none = record {
+  clean = record {
+    row = own.numbers;
+    some = rw (e, length-map values view) fits.0;
+    few = rw (e, length-map values view) fits.1;
+    rows = rw e (rows_read values particles read);
+  };
+  none = none;
+  params_are = own.are;
+  particles_are = rw e (particles_read values particles read);
+}

@@ -5,10 +5,10 @@ pub use Rattle.toml.specs.Parse
 pub mod Accepted
 pub mod Document
 pub mod Faults
-pub mod FirstDeck
+pub mod FirstFault
 pub mod Keys
 pub mod Judged
 pub mod Row
 pub mod Rows
 pub mod Agreement
-pub mod Answers
+pub mod Meets

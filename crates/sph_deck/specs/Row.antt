@@ -34,6 +34,14 @@ pub record HasUnknownName (of_top : Bool) (table : Members) : Type 0 where
   pub stands : IsSome (get_member name table)
   pub unknown : IsUnknownName of_top name
 
+-- the fault of a row with such a name
+abbrev pub IsNameFault : Bool → ℕ → Members → DeckFault → Type 0
+IsNameFault of_top row table fault = HasUnknownName of_top table × (fault ≡ Unknown (record { key = 0; row = row }))
+
+-- the fault at a key that wants an integer
+abbrev pub IsKeyFault : Key → ℕ → Members → DeckFault → Type 0
+IsKeyFault key row table fault = judged key row (value_at key table) ≡ Err fault
+
 -- each own key that wants an integer has one, in its range
 abbrev pub AreNumbersRead : Bool → Members → Type 0
 AreNumbersRead of_top table = (key : Key) → is_of_top key ≡ of_top → IsSome (range_of key) → (z : ℤ) × IsReadAt key table z
@@ -41,10 +49,4 @@ AreNumbersRead of_top table = (key : Key) → is_of_top key ≡ of_top → IsSom
 -- the fault of a name of the row, or of a key that wants an integer
 pub data IsRowFault (of_top : Bool) (row : ℕ) (table : Members) : DeckFault → Type 0 where
   unknown_name : HasUnknownName of_top table → IsRowFault of_top row table (Unknown (record { key = 0; row = row }))
-  at_key : (key : Key) (fault : DeckFault) → is_of_top key ≡ of_top → IsSome (range_of key) → judged key row (value_at key table) ≡ Err fault
-      → IsRowFault of_top row table fault
-
--- the row has no such fault
-pub record IsCleanRow (of_top : Bool) (table : Members) : Type 0 where
-  pub names : AreNamesKnown of_top table
-  pub numbers : AreNumbersRead of_top table
+  at_key : (key : Key) (fault : DeckFault) → is_of_top key ≡ of_top → IsSome (range_of key) → IsKeyFault key row table fault → IsRowFault of_top row table fault

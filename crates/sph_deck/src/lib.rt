@@ -4,6 +4,7 @@
 mod bound;
 mod deck;
 mod fault;
+mod faults;
 mod key;
 mod particle;
 mod read;
@@ -15,4 +16,5 @@ pub use bound::{bound_of, bounds_of};
 pub use deck::Deck;
 pub use fault::{DeckFault, Place};
 pub use key::Key;
-pub use read::{FirstRefusal, LONGEST_TEXT, read_first};
+pub use read::{LONGEST_TEXT, read_deck};
+pub use refusal::DeckRefusal;

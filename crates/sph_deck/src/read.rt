@@ -1,15 +1,17 @@
 //! Reading a deck.
-ghost use Rattle.std.specs.Prelude.{◌≡◌, MatchResult};
+ghost use Rattle.std.specs.Prelude.{◌≡◌, ◌≤◌, length, MatchResult};
 ghost use Rattle.toml.specs.View.{table_view};
 ghost use Rattle.sph_deck.specs.Agreement.{AreInRange, Disagree};
-ghost use Rattle.sph_deck.specs.Answers.{Answers};
-ghost use Rattle.sph_deck.specs.Faults.{StandsInTable};
-ghost use Rattle.sph_deck.specs.FirstDeck.{AnswersFirst};
+ghost use Rattle.sph_deck.specs.Document.{elements};
+ghost use Rattle.sph_deck.specs.Faults.{longest_text, StandsInTable};
+ghost use Rattle.sph_deck.specs.FirstFault.{AnswersDeck};
+ghost use Rattle.sph_deck.specs.Meets.{IsFirst};
 ghost use Rattle.sph_deck.specs.Rows.{IsRefusal, IsTableRead};
 
 use crate::bound::bound_of;
 use crate::deck::Deck;
 use crate::fault::DeckFault;
+use crate::faults::Faults;
 use crate::particle::read_particles;
 use crate::refusal::DeckRefusal;
 use crate::top::{particle_elements, read_params};
@@ -20,27 +22,21 @@ use toml::Table;
 /// A text of more bytes is no deck.
 pub const LONGEST_TEXT: usize = 16_777_216;
 
-/// Why a text was not read as a first deck.
-#[derive(Clone, Copy, Debug, PartialEq, Eq)]
-pub enum FirstRefusal {
-    /// The text is no TOML document.
-    NotToml,
-    /// It is one, but no accepted deck of one snapshot and one time bin.
-    Other,
-    /// Memory ran out.
-    Memory,
-}
-
-/// The numbers of a document, each in its range.
+/// The numbers of a document, each in its range, or the first fault of its rows and their number.
 fn read_table(alloc: Global, top: &Table) -> Result<(Params, Vec<Particle>), DeckRefusal>
+    requires { length (elements (table_view top.now)) ≤ longest_text }
     ensures { MatchResult result
         (λ numbers. IsTableRead (table_view top.now) numbers.0 numbers.1.items)
-        (IsRefusal (StandsInTable (table_view top.now))) }
+        (IsRefusal (IsFirst (StandsInTable (table_view top.now)))) }
 {
-    let params = read_params(top)?;
-    let values = particle_elements(top)?;
-    let particles = read_particles(alloc, values)?;
-    Ok((params, particles))
+    let mut faults = Faults { first: None };
+    let params = read_params(top, &mut faults);
+    let values = particle_elements(top, &mut faults);
+    let particles = read_particles(alloc, values, &mut faults)?;
+    match faults.first {
+        Some(fault) => Err(DeckRefusal::Fault(fault)),
+        None => Ok((params, particles)),
+    }
 }
 
 /// The deck of numbers that fit together.
@@ -48,7 +44,7 @@ fn accept(params: Params, particles: Vec<Particle>) -> Result<Deck, DeckFault>
     requires { AreInRange params particles.items }
     ensures { MatchResult result
         (λ deck. (deck.params ≡ params) × (deck.particles ≡ particles.items))
-        (Disagree params particles.items) }
+        (IsFirst (Disagree params particles.items)) }
 {
     let unit = 1u32 << params.bin_max;
     if params.every % unit != 0 {
@@ -79,66 +75,126 @@ fn accept(params: Params, particles: Vec<Particle>) -> Result<Deck, DeckFault>
     })
 }
 
-/// Reads an accepted deck, or says a fault that stands.
-fn read_any(alloc: Global, bytes: &[u8]) -> Result<Deck, DeckRefusal>
-    ensures { Answers bytes.now result }
+/// Reads an accepted deck, or says the first fault of the text.
+pub fn read_deck(alloc: Global, bytes: &[u8]) -> Result<Deck, DeckRefusal>
+    ensures { AnswersDeck bytes.now result }
 {
+    if bytes.len() > LONGEST_TEXT {
+        return Err(DeckRefusal::Fault(DeckFault::TooLong));
+    }
     let top = match toml::table_from_slice(alloc, bytes) {
         Ok(top) => top,
         Err(error) if error.is_memory() => return Err(DeckRefusal::Memory),
         Err(_) => return Err(DeckRefusal::Fault(DeckFault::NotToml)),
     };
-    if bytes.len() > LONGEST_TEXT {
-        return Err(DeckRefusal::Fault(DeckFault::TooLong));
-    }
     let (params, particles) = read_table(alloc, &top)?;
     let deck = accept(params, particles)?;
     Ok(deck)
 }
 
-/// Reads an accepted deck of one snapshot and one time bin.
-pub fn read_first(alloc: Global, bytes: &[u8]) -> Result<Deck, FirstRefusal>
-    ensures { AnswersFirst bytes.now result }
-{
-    match read_any(alloc, bytes) {
-        Ok(deck) if deck.params.ticks == 0 && deck.params.bin_max == 0 => Ok(deck),
-        Ok(_) => Err(FirstRefusal::Other),
-        Err(DeckRefusal::Fault(DeckFault::NotToml)) => Err(FirstRefusal::NotToml),
-        Err(DeckRefusal::Fault(_)) => Err(FirstRefusal::Other),
-        Err(DeckRefusal::Memory) => Err(FirstRefusal::Memory),
-    }
-}
-
 #[cfg(test)]
 mod tests {
     use super::*;
+    use crate::fault::DeckFault::*;
+    use crate::fault::Place;
     use std::alloc::AllocError;
     use std::test::Fail;
 
-    const TOP: &str =
-        "every = 1\nbin_min = 0\nbin_max = 0\nsound = 65536\nshift = 20\naccuracy = 0\nleaf = 16\npairs = 4096\nslack = 0\n";
+    // The first five numbers of the top: ticks, every, bin_min, bin_max and sound.
+    const NUMBERS: [u32; 5] = [0, 1, 0, 0, 65_536];
 
-    const PARTICLE: &str = "h = 2048\nx = 1\ny = 2\nz = 1048575\npx = -5\npy = 6\npz = 7\n";
+    const ROW: &str = "h = 2048\nx = 1\ny = 2\nz = 1048575\npy = 6\npz = 7\n";
 
     const INLINE: &str =
-        "particle = [{ h = 2048, x = 1, y = 2, z = 1048575, px = -5, py = 6, pz = 7, mass = 3 }]\n";
+        "particle = [{ pz = 7, py = 6, px = -5, z = 1048575, y = 2, x = 1, h = 2048, mass = 3 }]\n";
+
+    const AT_ODDS: &str = "[[particle]]\nmass = 3\nh = 2048\n[[particle]]\nweight = 3\n";
+
+    const BOTH_LACK: &str =
+        "[[particle]]\nmass = 3\nh = 2048\nx = 1\ny = 2\npx = 5\npy = 6\n[[particle]]\nh = 2048\n";
+
+    const FAR_APART: &str =
+        "[[particle]]\nmass = 1\nh = 131072\nx = 0\ny = 0\nz = 0\npx = 0\npy = 0\npz = 0\n[[particle]]\nmass = 65536\nh = 1024\nx = 524288\ny = 0\nz = 0\npx = 0\npy = 0\npz = 0\n";
+
+    // The lines of the top, and then this text.
+    fn top(alloc: Global, numbers: [u32; 5], rest: &str) -> Result<String, AllocError> {
+        let [ticks, every, bin_min, bin_max, sound] = numbers;
+        let bins = format!(in alloc; "bin_min = {bin_min}\nbin_max = {bin_max}\n")?;
+        format!(in alloc;
+            "ticks = {ticks}\nevery = {every}\n{bins}sound = {sound}\nshift = 20\naccuracy = 0\nleaf = 16\npairs = 4096\nslack = 0\n{rest}"
+        )
+    }
 
     // A deck of one particle.
-    fn deck(alloc: Global, ticks: &str, mass: &str) -> Result<String, AllocError> {
-        format!(in alloc; "ticks = {ticks}\n{TOP}[[particle]]\nmass = {mass}\n{PARTICLE}")
+    fn deck(alloc: Global, numbers: [u32; 5], mass: &str, px: &str) -> Result<String, AllocError> {
+        let row = format!(in alloc; "[[particle]]\nmass = {mass}\npx = {px}\n{ROW}")?;
+        top(alloc, numbers, row.as_str())
+    }
+
+    fn text(alloc: Global, text: &str) -> Result<String, AllocError> {
+        String::from_str(alloc, text)
+    }
+
+    const fn at(key: u32, row: u32) -> Place {
+        Place { key, row }
     }
 
     #[test]
-    fn reads_one_particle(rt: HostRuntime) -> Result<(), Fail> {
-        let text = deck(rt.alloc(), "0", "3")?;
-        let deck = read_first(rt.alloc(), text.as_bytes())
+    fn answers_the_first_fault(rt: HostRuntime) -> Result<(), Fail> {
+        let alloc = rt.alloc();
+        let least = "-9223372036854775808";
+        let bound = 79_229_593_140_405_403_728_966_844_416;
+        let cases = [
+            (text(alloc, "")?, Missing(at(1, 0))),
+            (text(alloc, "a = ")?, NotToml),
+            (text(alloc, "a = 1")?, Unknown(at(0, 0))),
+            (top(alloc, NUMBERS, AT_ODDS)?, Unknown(at(0, 2))),
+            (top(alloc, NUMBERS, BOTH_LACK)?, Missing(at(16, 1))),
+            (top(alloc, NUMBERS, "particle = []")?, NoParticles),
+            (top(alloc, NUMBERS, "particle = [1]")?, WrongKind(at(11, 1))),
+            (deck(alloc, NUMBERS, "0", "-5")?, OutOfRange(at(12, 1), 0)),
+            (deck(alloc, NUMBERS, "1.0", "-5")?, WrongKind(at(12, 1))),
+            (
+                deck(alloc, NUMBERS, "3", least)?,
+                OutOfRange(at(17, 1), i64::MIN),
+            ),
+            (
+                deck(alloc, [0, 6, 0, 2, 1], "3", "-5")?,
+                BadEvery { every: 6, unit: 4 },
+            ),
+            (
+                deck(alloc, [6, 4, 0, 2, 1], "3", "-5")?,
+                BadTicks { ticks: 6, every: 4 },
+            ),
+            (
+                deck(alloc, [0, 1, 1, 0, 1], "3", "-5")?,
+                BadBins { min: 1, max: 0 },
+            ),
+            (top(alloc, [0, 8, 0, 3, 42_894], FAR_APART)?, Sums(bound)),
+        ];
+        for (text, fault) in cases {
+            let refusal = read_deck(alloc, text.as_bytes()).err();
+            assert!(rt; refusal == Some(DeckRefusal::Fault(fault)), "at {text}");
+        }
+        Ok(())
+    }
+
+    #[test]
+    fn refuses_a_long_text_unread(rt: HostRuntime) -> Result<(), Fail> {
+        let text = vec![in rt.alloc(); b'='; LONGEST_TEXT + 1]?;
+        let refusal = read_deck(rt.alloc(), &text).err();
+        assert!(rt; refusal == Some(DeckRefusal::Fault(TooLong)));
+        Ok(())
+    }
+
+    #[test]
+    fn reads_the_numbers(rt: HostRuntime) -> Result<(), Fail> {
+        let text = deck(rt.alloc(), NUMBERS, "3", "-5")?;
+        let deck = read_deck(rt.alloc(), text.as_bytes())
             .ok()
             .ok_or("refused")?;
-        assert_eq!(rt; deck.params.ticks, 0);
         assert_eq!(rt; deck.params.every, 1);
-        assert_eq!(rt; deck.params.sound, 65_536);
         assert_eq!(rt; deck.params.shift, 20);
-        assert_eq!(rt; deck.params.leaf, 16);
         assert_eq!(rt; deck.params.pairs, 4_096);
         assert_eq!(rt; deck.particles.len(), 1);
         let particle = deck.particles.get(0).ok_or("no particle")?;
@@ -147,37 +203,22 @@ mod tests {
         assert!(rt; particle.x0 == [1, 2, 1_048_575]);
         assert!(rt; particle.p == [-5, 6, 7]);
         assert!(rt; particle.q == [-5, 6, 7]);
-        Ok(())
-    }
-
-    #[test]
-    fn reads_both_layouts(rt: HostRuntime) -> Result<(), Fail> {
-        let headers = deck(rt.alloc(), "0", "3")?;
-        let inline = format!(in rt.alloc(); "ticks = 0\n{TOP}{INLINE}")?;
-        let first = read_first(rt.alloc(), headers.as_bytes())
-            .ok()
-            .ok_or("headers")?;
-        let second = read_first(rt.alloc(), inline.as_bytes())
+        let inline = top(rt.alloc(), NUMBERS, INLINE)?;
+        let same = read_deck(rt.alloc(), inline.as_bytes())
             .ok()
             .ok_or("inline")?;
-        assert!(rt; first.params == second.params);
-        assert!(rt; first.particles.as_slice() == second.particles.as_slice());
+        assert!(rt; deck.params == same.params);
+        assert!(rt; deck.particles.as_slice() == same.particles.as_slice());
         Ok(())
     }
 
     #[test]
-    fn refuses_others(rt: HostRuntime) -> Result<(), Fail> {
-        assert!(rt; matches!(read_first(rt.alloc(), b"a = "), Err(FirstRefusal::NotToml)));
-        assert!(rt; matches!(read_first(rt.alloc(), b""), Err(FirstRefusal::Other)));
-        assert!(rt; matches!(read_first(rt.alloc(), b"a = 1"), Err(FirstRefusal::Other)));
-        let empty = format!(in rt.alloc(); "ticks = 0\n{TOP}particle = []\n")?;
-        let massless = deck(rt.alloc(), "0", "0")?;
-        let fraction = deck(rt.alloc(), "0", "1.0")?;
-        let longer = deck(rt.alloc(), "1", "3")?;
-        for text in [empty, massless, fraction, longer] {
-            let refusal = read_first(rt.alloc(), text.as_bytes()).err();
-            assert!(rt; refusal == Some(FirstRefusal::Other), "at {text}");
-        }
+    fn reads_up_to_the_bound(rt: HostRuntime) -> Result<(), Fail> {
+        let text = top(rt.alloc(), [0, 8, 0, 3, 42_893], FAR_APART)?;
+        let deck = read_deck(rt.alloc(), text.as_bytes())
+            .ok()
+            .ok_or("refused")?;
+        assert_eq!(rt; deck.particles.len(), 2);
         Ok(())
     }
 }

@@ -5,10 +5,12 @@ ghost use Rattle.sph_deck.specs.declared.refusal.DeckRefusal.TheVariants.{Fault,
 use crate::fault::DeckFault;
 use std::alloc::{AllocError, AllocFailed};
 
-/// A fault of the text, or memory that ran out.
+/// Why no deck was read.
 #[derive(Clone, Copy, Debug, PartialEq, Eq)]
-pub(crate) enum DeckRefusal {
+pub enum DeckRefusal {
+    /// The first fault of the text.
     Fault(DeckFault),
+    /// Memory ran out.
     Memory,
 }
 
@@ -24,14 +26,6 @@ impl From<AllocError> for DeckRefusal {
     ghost from_gives = { λ _ refusal. refusal ≡ Memory };
 
     fn from(_error: AllocError) -> DeckRefusal {
-        DeckRefusal::Memory
-    }
-}
-
-impl<T: Drop> From<AllocFailed<T>> for DeckRefusal {
-    ghost from_gives = { λ _ refusal. refusal ≡ Memory };
-
-    fn from(_error: AllocFailed<T>) -> DeckRefusal {
         DeckRefusal::Memory
     }
 }

@@ -1,13 +1,15 @@
 //! The table of one row: its names, and the integers at its keys.
-ghost use Rattle.std.specs.Prelude.{◌≡◌, Ok, Err, pos, option_map, IsTrue, IfOk, MatchResult, MatchBool, find};
+ghost use Rattle.std.specs.Prelude.{◌≡◌, pos, option_map, IsTrue, IfOk, MatchBool, find};
 ghost use Rattle.std.specs.Str.{bytes_eq};
 ghost use Rattle.toml.specs.View.{view, table_view};
 ghost use Rattle.sph_deck.specs.Document.{value_at};
 ghost use Rattle.sph_deck.specs.Judged.{judged, is_whole, IsReadAt};
 ghost use Rattle.sph_deck.specs.Keys.{name_of, is_of_top};
-ghost use Rattle.sph_deck.specs.Row.{HasUnknownName, AreNamesKnown, IsKnownName, IsUnknownName};
+ghost use Rattle.sph_deck.specs.Meets.{Meets};
+ghost use Rattle.sph_deck.specs.Row.{HasUnknownName, AreNamesKnown, IsKeyFault, IsKnownName, IsNameFault, IsUnknownName};
 
 use crate::fault::{DeckFault, Place};
+use crate::faults::Faults;
 use crate::key::Key;
 use toml::{Table, Value};
 
@@ -41,9 +43,9 @@ pub(crate) fn value_at<'a>(table: &'a Table, key: Key) -> Option<&'a Value>
     table.get(key.name())
 }
 
-/// The integer at a key, in the key's range.
+/// The integer at a key, in the key's range, or the fault there.
 #[tactic(auto, unfolding(crate::specs::Judged::judged))]
-pub(crate) fn integer(table: &Table, key: Key, row: u32) -> Result<i64, DeckFault>
+fn integer(table: &Table, key: Key, row: u32) -> Result<i64, DeckFault>
     ensures judged { result ≡ judged key row (value_at key (table_view table.now)) }
     ensures read { IfOk result (IsReadAt key (table_view table.now)) }
 {
@@ -61,27 +63,33 @@ pub(crate) fn integer(table: &Table, key: Key, row: u32) -> Result<i64, DeckFaul
     }
 }
 
-/// The integer at a key that takes none below 0, and none from 2^32 on.
-#[tactic(auto, unfolding(crate::specs::Judged::judged))]
-pub(crate) fn whole(table: &Table, key: Key, row: u32) -> Result<u32, DeckFault>
+/// The integer at a key that takes none below 0, and none from 2^32 on; 0 after a fault.
+pub(crate) fn whole(table: &Table, key: Key, row: u32, faults: &mut Faults) -> u32
     requires { IsTrue (is_whole key) }
-    ensures { MatchResult result
-        (λ n. IsReadAt key (table_view table.now) (pos n))
-        (λ fault. judged key row (value_at key (table_view table.now)) ≡ Err fault) }
+    ensures faults { Meets (IsKeyFault key row (table_view table.now)) faults.old.first faults.new.first }
+    ensures read { faults.new.first ≡ None → IsReadAt key (table_view table.now) (pos result) }
 {
-    let z = integer(table, key, row)?;
-    Ok(z as u32)
+    match integer(table, key, row) {
+        Ok(z) => z as u32,
+        Err(fault) => {
+            faults.note(fault);
+            0
+        }
+    }
 }
 
-/// The integer at a key, as wide as a momentum.
-#[tactic(auto, unfolding(crate::specs::Judged::judged))]
-pub(crate) fn component(table: &Table, key: Key, row: u32) -> Result<i128, DeckFault>
-    ensures { MatchResult result
-        (IsReadAt key (table_view table.now))
-        (λ fault. judged key row (value_at key (table_view table.now)) ≡ Err fault) }
+/// The integer at a key, as wide as a momentum; 0 after a fault.
+pub(crate) fn component(table: &Table, key: Key, row: u32, faults: &mut Faults) -> i128
+    ensures faults { Meets (IsKeyFault key row (table_view table.now)) faults.old.first faults.new.first }
+    ensures read { faults.new.first ≡ None → IsReadAt key (table_view table.now) result }
 {
-    let z = integer(table, key, row)?;
-    Ok(i128::from(z))
+    match integer(table, key, row) {
+        Ok(z) => i128::from(z),
+        Err(fault) => {
+            faults.note(fault);
+            0
+        }
+    }
 }
 
 /// The key of a name.
@@ -109,10 +117,19 @@ fn is_known_name(name: &str, of_top: bool) -> bool
 }
 
 /// Whether the table of the top, or else of a particle, has a name that is none of its keys.
-pub(crate) fn has_unknown_name(table: &Table, of_top: bool) -> bool
+fn has_unknown_name(table: &Table, of_top: bool) -> bool
     ensures { MatchBool result
         (HasUnknownName of_top (table_view table.now))
         (AreNamesKnown of_top (table_view table.now)) }
 {
     table.keys().any(|name| !is_known_name(name, of_top))
+}
+
+/// Notes the names of a row that are none of its keys.
+pub(crate) fn note_names(table: &Table, of_top: bool, row: u32, faults: &mut Faults)
+    ensures { Meets (IsNameFault of_top row (table_view table.now)) faults.old.first faults.new.first }
+{
+    if has_unknown_name(table, of_top) {
+        faults.note(DeckFault::Unknown(Place { key: 0, row }));
+    }
 }

@@ -1,40 +1,38 @@
 //! The row of the top.
-ghost use Rattle.std.specs.Prelude.{◌≡◌, true, Ok, Err, MatchResult};
-ghost use Rattle.toml.specs.View.{items_view, table_view};
-ghost use Rattle.sph_deck.specs.Document.{value_at};
-ghost use Rattle.sph_deck.specs.Faults.{StandsInTable};
+ghost use Rattle.std.specs.Prelude.{◌≡◌, ◌≤◌, length, map, true, Ok, Err, MatchResult};
+ghost use Rattle.toml.specs.View.{items_view, table_view, view};
+ghost use Rattle.sph_deck.specs.Document.{elements, value_at};
+ghost use Rattle.sph_deck.specs.Faults.{most_particles};
+ghost use Rattle.sph_deck.specs.Meets.{Meets};
 ghost use Rattle.sph_deck.specs.Row.{IsRowFault};
-ghost use Rattle.sph_deck.specs.Rows.{judged_array, AreParamsRead, HasParticles};
+ghost use Rattle.sph_deck.specs.Rows.{judged_array, AreParamsRead, IsArrayFault, IsCountFault};
 
 use crate::fault::{DeckFault, Place};
+use crate::faults::Faults;
 use crate::key::Key;
-use crate::row::{has_unknown_name, value_at, whole};
+use crate::row::{note_names, value_at, whole};
 use sph_num::Params;
 use toml::{Table, Value};
 
 const MOST_PARTICLES: usize = 32_768;
 
 /// The numbers of the top.
-#[tactic(auto, using(crate::proofs::RowFaults::fault_of_key, crate::proofs::RowFaults::fault_of_name))]
-pub(crate) fn read_params(top: &Table) -> Result<Params, DeckFault>
-    ensures { MatchResult result
-        (AreParamsRead (table_view top.now))
-        (IsRowFault true 0 (table_view top.now)) }
+pub(crate) fn read_params(top: &Table, faults: &mut Faults) -> Params
+    ensures faults { Meets (IsRowFault true 0 (table_view top.now)) faults.old.first faults.new.first }
+    ensures read { faults.new.first ≡ None → AreParamsRead (table_view top.now) result }
 {
-    if has_unknown_name(top, true) {
-        return Err(DeckFault::Unknown(Place { key: 0, row: 0 }));
-    }
-    let ticks = whole(top, Key::Ticks, 0)?;
-    let every = whole(top, Key::Every, 0)?;
-    let bin_min = whole(top, Key::BinMin, 0)?;
-    let bin_max = whole(top, Key::BinMax, 0)?;
-    let sound = whole(top, Key::Sound, 0)?;
-    let shift = whole(top, Key::Shift, 0)?;
-    let accuracy = whole(top, Key::Accuracy, 0)?;
-    let leaf = whole(top, Key::Leaf, 0)?;
-    let pairs = whole(top, Key::Pairs, 0)?;
-    let slack = whole(top, Key::Slack, 0)?;
-    Ok(Params {
+    note_names(top, true, 0, faults);
+    let ticks = whole(top, Key::Ticks, 0, faults);
+    let every = whole(top, Key::Every, 0, faults);
+    let bin_min = whole(top, Key::BinMin, 0, faults);
+    let bin_max = whole(top, Key::BinMax, 0, faults);
+    let sound = whole(top, Key::Sound, 0, faults);
+    let shift = whole(top, Key::Shift, 0, faults);
+    let accuracy = whole(top, Key::Accuracy, 0, faults);
+    let leaf = whole(top, Key::Leaf, 0, faults);
+    let pairs = whole(top, Key::Pairs, 0, faults);
+    let slack = whole(top, Key::Slack, 0, faults);
+    Params {
         ticks,
         every,
         bin_min,
@@ -45,7 +43,7 @@ pub(crate) fn read_params(top: &Table) -> Result<Params, DeckFault>
         leaf,
         pairs,
         slack,
-    })
+    }
 }
 
 /// What stands at the key of the array of particles.
@@ -67,18 +65,32 @@ fn particle_array(top: &Table) -> Result<&[Value], DeckFault>
     }
 }
 
-/// The elements of the array of particles, as many as a deck may have.
-pub(crate) fn particle_elements(top: &Table) -> Result<&[Value], DeckFault>
-    ensures { MatchResult result
-        (λ values. HasParticles (table_view top.now) values.now)
-        (StandsInTable (table_view top.now)) }
+/// Notes a number of particles that no deck may have.
+fn note_count(count: usize, faults: &mut Faults)
+    ensures faults { Meets (IsCountFault count) faults.old.first faults.new.first }
+    ensures fits { faults.new.first ≡ None → (1 ≤ count) × (count ≤ most_particles) }
 {
-    let values = particle_array(top)?;
-    if values.is_empty() {
-        return Err(DeckFault::NoParticles);
+    if count == 0 {
+        faults.note(DeckFault::NoParticles);
+    } else if count > MOST_PARTICLES {
+        faults.note(DeckFault::TooMany(count as u64));
     }
-    if values.len() > MOST_PARTICLES {
-        return Err(DeckFault::TooMany(values.len() as u64));
+}
+
+/// The elements of the array of particles; none where there is no array.
+pub(crate) fn particle_elements<'a>(top: &'a Table, faults: &mut Faults) -> &'a [Value]
+    ensures faults { Meets (IsArrayFault (table_view top.now)) faults.old.first faults.new.first }
+    ensures elements { elements (table_view top.now) ≡ map view result.now }
+    ensures fits { faults.new.first ≡ None → (1 ≤ length result.now) × (length result.now ≤ most_particles) }
+{
+    match particle_array(top) {
+        Ok(values) => {
+            note_count(values.len(), faults);
+            values
+        }
+        Err(fault) => {
+            faults.note(fault);
+            &[]
+        }
     }
-    Ok(values)
 }

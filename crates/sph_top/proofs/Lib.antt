@@ -1,5 +1,8 @@
 pub mod Bytes
+pub mod Decks
+pub mod FirstFaults
 pub mod Jobs
+pub mod NamedKeys
 pub mod Reported
 pub mod Rest
 pub mod Rows

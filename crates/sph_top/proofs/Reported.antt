@@ -3,13 +3,14 @@ use Rattle.std.proofs.Common.{◌≡◌, ℕ, List, [], refl, sym, ap, ◌∙◌
 use Rattle.std.specs.Prelude.{Option, None, Some, String}
 use Rattle.std.specs.declared.alloc.Global.{Global}
 use Rattle.std.specs.Io.KnownBytes.{Appends, Keeps}
+use Rattle.sph_deck.specs.declared.fault.DeckFault.{DeckFault}
 use Rattle.sph_edge.specs.Causes.{Stayed}
 use Rattle.sph_top.specs.declared.status.Status.{Status}
-use Rattle.sph_top.specs.declared.status.Status.TheVariants.{Done, WriteFault, NoMemory}
+use Rattle.sph_top.specs.declared.status.Status.TheVariants.{Done, DeckRefused, WriteFault, NoMemory}
 use Rattle.sph_top.specs.Answers.{Seen, IsDone, AppendsSome, IsWithoutOutput, TellsWriteFault, Yields}
 use Rattle.sph_top.specs.Lines.{error_line}
-use Rattle.sph_top.specs.Steps.{Rests, Reports}
-use Rattle.sph_top.proofs.Rest.{IsCaused-rests, AppendsSome-rests, stayed_not_rose}
+use Rattle.sph_top.specs.Steps.{IsTold, Rests, Reports}
+use Rattle.sph_top.proofs.Rest.{IsCaused-rests, AppendsSome-rests, NoMemory-refused, stayed_not_rose}
 
 -- bytes to which nothing was appended are kept
 Keeps-nothing : (a b : Option (List ℕ)) → Appends a b [] → Keeps a b
@@ -22,48 +23,95 @@ quiet_line : error_line Done ≡ []
 unfolding error_line
 quiet_line = refl
 
-module _ (status result : Status) (err err' : Seen) (told : Reports status result err err') where
+-- the answer whose line was written: the one before it, or NoMemory where a deck was refused
+record WasSaid (status said result : Status) (err err' : Seen) : Type 0 where
+  pub which : (said ≡ status) ⊎ ((fault : DeckFault) × (status ≡ DeckRefused fault) × (said ≡ NoMemory))
+  pub told : IsTold said result err err'
+
+WasSaid-reports : (status result : Status) (err err' : Seen) → Reports status result err err' → (said : Status) × WasSaid status said result err err'
+WasSaid-reports status result err err' (inl told) = (status, record { which = inl refl; told = told })
+WasSaid-reports status result err err' (inr failed) = (NoMemory, record { which = inr (failed.0, failed.1, refl); told = failed.2 })
+
+module _ (status result : Status) (err err' : Seen) (reports : Reports status result err err') where
+  -- the answer is the wanted one, where it was before its line was written
+  pub yields : (wanted : Status) → (status ≡ wanted) ⊎ (status ≡ NoMemory) → Yields wanted result err err'
+  yields wanted was =
+      let s = WasSaid-reports status result err err' reports in
+      let said : (s.0 ≡ wanted) ⊎ (s.0 ≡ NoMemory) = elim s.1.which [
+        | inl e ↦ elim was [ inl w ↦ inl (e ∙ w) | inr w ↦ inr (e ∙ w) ]
+        | inr e ↦ inr e.2
+      ] in
+      elim s.1.told [
+        | inl t ↦ elim said [ inl e ↦ inl (t.0 ∙ e) | inr e ↦ inr (inl (t.0 ∙ e)) ]
+        | inr t ↦ inr (inr (t.1, t.2))
+      ]
+
+  -- where `err` didn't fail, a run to the end stays one
+  pub whole_run : Stayed err.faults err'.faults → (status ≡ Done) ⊎ (status ≡ NoMemory) → (result ≡ Done) ⊎ (result ≡ NoMemory)
+  whole_run stayed was = elim (yields Done was) [
+    | inl e ↦ inl e
+    | inr (inl e) ↦ inr e
+    | inr (inr e) ↦ absurd (stayed_not_rose err.faults err'.faults stayed e.1)
+  ]
+
+-- What follows from the answer whose line was written.
+module _ (said result : Status) (err err' : Seen) (told : IsTold said result err err') where
   -- Done was the answer before its line was written, and that is empty
-  quiet : result ≡ Done → (status ≡ Done) × Keeps err.bytes err'.bytes
+  quiet : result ≡ Done → (said ≡ Done) × Keeps err.bytes err'.bytes
   quiet e = elim told [
     | inl t ↦ let was = sym t.0 ∙ e in
         (was, Keeps-nothing err.bytes err'.bytes (subst (Appends err.bytes err'.bytes) (ap error_line was ∙ quiet_line) t.1))
     | inr t ↦ let no = t.1 in cc
   ]
 
-  -- the answer is the wanted one, where it was before its line was written
-  pub yields : (wanted : Status) → (status ≡ wanted) ⊎ (status ≡ NoMemory) → Yields wanted result err err'
-  yields wanted was = elim told [
-    | inl t ↦ elim was [ inl e ↦ inl (t.0 ∙ e) | inr e ↦ inr (inl (t.0 ∙ e)) ]
-    | inr t ↦ inr (inr (t.1, t.2))
-  ]
-
-  -- where `err` didn't fail, a run to the end stays one
-  pub whole_run : Stayed err.faults err'.faults → (status ≡ Done) ⊎ (status ≡ NoMemory) → (result ≡ Done) ⊎ (result ≡ NoMemory)
-  whole_run stayed was = elim told [
-    | inl t ↦ elim was [ inl e ↦ inl (t.0 ∙ e) | inr e ↦ inr (t.0 ∙ e) ]
-    | inr t ↦ absurd (stayed_not_rose err.faults err'.faults stayed t.2)
-  ]
-
-  module _ (words : List (String Global)) (source source' out out' : Seen) (rests : Rests status words source source' out out') where
-    -- Done after its line, which is empty
-    pub done : result ≡ Done → IsDone words source source' out out' err err'
-    done e =
+  module _ (words : List (String Global)) (source source' out out' : Seen) (rests : Rests said words source source' out out') where
+    done_said : result ≡ Done → IsDone words source source' out out' err err'
+    done_said e =
         let q = quiet e in
         let r = subst (λ s. Rests s words source source' out out') q.0 rests in
         record { deck = r.0; read = r.1; output = r.2; quiet = q.1 }
 
-    -- what stands on the output under a write fault
-    pub output_of_write_fault : (IsWithoutOutput status → out' ≡ out) → result ≡ WriteFault → AppendsSome words source source' out out'
-    output_of_write_fault same e = elim told [
-      | inl t ↦ let was = t.0 in AppendsSome-rests status words source source' out out' (λ d. cc) same rests
-      | inr t ↦ AppendsSome-rests status words source source' out out' t.0 same rests
+    output_said : (IsWithoutOutput said → out' ≡ out) → result ≡ WriteFault → AppendsSome words source source' out out'
+    output_said same e = elim told [
+      | inl t ↦ let was = t.0 in AppendsSome-rests said words source source' out out' (λ d. cc) same rests
+      | inr t ↦ AppendsSome-rests said words source source' out out' t.0 same rests
     ]
 
-    -- what stands on `err` under a write fault
-    pub line_of_write_fault : result ≡ WriteFault → TellsWriteFault words source source' out out' err err'
-    line_of_write_fault e = elim told [
+    line_said : result ≡ WriteFault → TellsWriteFault words source source' out out' err err'
+    line_said e = elim told [
       | inl t ↦ let was = sym t.0 ∙ e in
           inl ((subst (λ s. Rests s words source source' out out') was rests).2.0, subst (λ s. Appends err.bytes err'.bytes (error_line s)) was t.1)
-      | inr t ↦ inr (t.2, status, IsCaused-rests status words source source' out out' t.0 rests, t.3)
+      | inr t ↦ inr (t.2, said, IsCaused-rests said words source source' out out' t.0 rests, t.3)
     ]
+
+module _ (status result : Status) (err err' : Seen) (reports : Reports status result err err') (words : List (String Global)) (source source' out out' : Seen)
+    (rests : Rests status words source source' out out') (same : IsWithoutOutput status → out' ≡ out) where
+  -- what rests on the answer before its line rests on the one whose line was written
+  Rests-said : (said : Status) → WasSaid status said result err err' → Rests said words source source' out out' × (IsWithoutOutput said → out' ≡ out)
+  Rests-said said was = elim was.which [
+    | inl e ↦ subst (λ s. Rests s words source source' out out' × (IsWithoutOutput s → out' ≡ out)) (sym e) (rests, same)
+    | inr e ↦
+        let untouched = subst (λ s. IsWithoutOutput s → out' ≡ out) e.1 same tt in
+        let refused = subst (λ s. Rests s words source source' out out') e.1 rests in
+        subst (λ s. Rests s words source source' out out' × (IsWithoutOutput s → out' ≡ out)) (sym e.2)
+        (NoMemory-refused e.0 words source source' out out' untouched refused, λ w. absurd w)
+  ]
+
+  -- Done after its line, which is empty
+  pub done : result ≡ Done → IsDone words source source' out out' err err'
+  done e =
+      let s = WasSaid-reports status result err err' reports in
+      done_said s.0 result err err' s.1.told words source source' out out' (Rests-said s.0 s.1).0 e
+
+  -- what stands on the output under a write fault
+  pub output_of_write_fault : result ≡ WriteFault → AppendsSome words source source' out out'
+  output_of_write_fault e =
+      let s = WasSaid-reports status result err err' reports in
+      let r = Rests-said s.0 s.1 in
+      output_said s.0 result err err' s.1.told words source source' out out' r.0 r.1 e
+
+  -- what stands on `err` under a write fault
+  pub line_of_write_fault : result ≡ WriteFault → TellsWriteFault words source source' out out' err err'
+  line_of_write_fault e =
+      let s = WasSaid-reports status result err err' reports in
+      line_said s.0 result err err' s.1.told words source source' out out' (Rests-said s.0 s.1).0 e

@@ -1,23 +1,26 @@
 -- What follows from that on which an answer rests, before its line is written.
-use Rattle.std.proofs.Common.{◌≡◌, ℕ, ◌+◌, ◌<◌, ◌≤◌, List, [], ◌++◌, length, refl, sym, ap, ◌∙◌, subst, inl, inr, ◌⊎◌, arith, append-nil, length-append}
+use Rattle.std.proofs.Common.{◌≡◌, ℕ, ◌+◌, ◌<◌, List, [], ◌++◌, length, refl, sym, ap, ◌∙◌, subst, inl, inr, ◌⊎◌, arith, append-nil, length-append}
 use Rattle.std.specs.Prelude.{Option, None, Some, String}
 use Rattle.std.specs.declared.alloc.Global.{Global}
 use Rattle.std.specs.Io.KnownBytes.{Appends, Consumes, IsAtEnd}
 use Rattle.std.proofs.KnownBytes.{Appends-nil}
 use Rattle.sph_deck.specs.declared.deck.Deck.{Deck}
 use Rattle.sph_deck.specs.declared.fault.DeckFault.{DeckFault}
-use Rattle.sph_deck.specs.declared.fault.DeckFault.TheVariants.{NotToml, TooLong}
-use Rattle.sph_deck.specs.Faults.{Stands, longest_text}
-use Rattle.sph_deck.specs.FirstDeck.{IsFirstDeck, IsOtherThanFirst}
+use Rattle.sph_deck.specs.Faults.{longest_text}
+use Rattle.sph_deck.specs.FirstFault.{IsFirstFault}
+use Rattle.sph_report.specs.DeckLines.{NamesKey}
 use Rattle.sph_edge.specs.Bytes.{GaveAll}
 use Rattle.sph_edge.specs.Causes.{Rose, Stayed}
 use Rattle.sph_edge.specs.Whole.{GaveTooMuch}
 use Rattle.sph_top.specs.declared.status.Status.{Status}
 use Rattle.sph_top.specs.declared.status.Status.TheVariants.{Done, DeckRefused, NotBuilt, ReadFault, WriteFault, NoMemory}
-use Rattle.sph_top.specs.Answers.{Seen, WasRead, ReadsFirst, IsDeckRefused, IsCaused, AppendsSome, AppendsToAnEnd, IsWithoutOutput}
+use Rattle.sph_top.specs.Answers.{Seen, IsFirstDeck, IsLaterDeck, WasRead, ReadsFirst, IsDeckRefused, IsDeckLater, IsCaused, AppendsSome, AppendsToAnEnd, IsWithoutOutput}
 use Rattle.sph_top.specs.Snapshot.{first_snapshot, end_mark}
-use Rattle.sph_top.specs.Steps.{Rests}
+use Rattle.sph_top.specs.Steps.{NamesItsKey, Rests}
 use Rattle.sph_top.specs.Words.{NamesRun}
+use Rattle.sph_top.proofs.Decks.{not_first_and_later}
+use Rattle.sph_top.proofs.FirstFaults.{IsFirstFault-unique, IsFirstFault-too_long}
+use Rattle.sph_top.proofs.NamedKeys.{NamesKey-stands}
 use Rattle.sph_top.proofs.Streams.{AppendsPrefix-whole}
 
 -- a count that stayed did not rise
@@ -73,6 +76,27 @@ AppendsSome-rests ReadFault words source source' out out' undone same rests = in
 AppendsSome-rests WriteFault words source source' out out' undone same rests = inr (rests.0, rests.1, rests.2.1)
 AppendsSome-rests NoMemory words source source' out out' undone same rests = AppendsSome-to_an_end words source source' out out' rests.1
 
+-- a refused deck's job was named
+job_refused : (fault : DeckFault) (words : List (String Global)) (source source' : Seen) → IsDeckRefused fault words source source' → NamesRun words
+job_refused fault words source source' (inl long) = long.1.job
+job_refused fault words source source' (inr faulty) = faulty.read.job
+
+-- where there was no memory for a refusal's line, nothing was appended
+pub NoMemory-refused : (fault : DeckFault) (words : List (String Global)) (source source' out out' : Seen) → out' ≡ out
+    → IsDeckRefused fault words source source' → Rests NoMemory words source source' out out'
+NoMemory-refused fault words source source' out out' same refused =
+    (job_refused fault words source source' refused, inl (Appends-same out out' same))
+
+-- a refused deck's fault names its key
+NamesKey-refused : (fault : DeckFault) (words : List (String Global)) (source source' : Seen) → IsDeckRefused fault words source source' → NamesKey fault
+NamesKey-refused fault words source source' (inl long) = subst NamesKey (sym long.0) tt
+NamesKey-refused fault words source source' (inr faulty) = NamesKey-stands faulty.bytes fault faulty.first.stands
+
+pub NamesItsKey-rests : (status : Status) (words : List (String Global)) (source source' out out' : Seen) → Rests status words source source' out out'
+    → NamesItsKey status
+NamesItsKey-rests (DeckRefused fault) words source source' out out' rests = NamesKey-refused fault words source source' rests
+NamesItsKey-rests _ words source source' out out' rests = tt
+
 -- Where the source tells its bytes and no read failed, the answer is that of these bytes.
 module _ (words : List (String Global)) (source source' out out' : Seen) (job : NamesRun words) (bytes : List ℕ) (has : source.bytes ≡ Some bytes)
     (stayed : Stayed source.faults source'.faults) where
@@ -84,50 +108,43 @@ module _ (words : List (String Global)) (source source' out out' : Seen) (job : 
   first_of : (deck : Deck) → ReadsFirst words source source' deck → IsFirstDeck bytes deck
   first_of deck reads = subst (λ l. IsFirstDeck l deck) (same reads.bytes reads.read) reads.first
 
-  -- what NotBuilt says of the bytes
-  not_built : Rests NotBuilt words source source' out out' → (longest_text < length bytes) ⊎ IsOtherThanFirst bytes
-  not_built (inl unnamed) = absurd (unnamed job)
-  not_built (inr (inl long)) = inl (GaveTooMuch-long longest_text source.bytes source'.bytes bytes has long.gave)
-  not_built (inr (inr other)) = inr (subst IsOtherThanFirst (same other.bytes other.read) other.other)
+  -- the fault for which the deck was refused is the first of the bytes
+  fault_of : (fault : DeckFault) → IsDeckRefused fault words source source' → IsFirstFault bytes fault
+  fault_of fault (inl long) =
+      subst (IsFirstFault bytes) (sym long.0) (IsFirstFault-too_long bytes (GaveTooMuch-long longest_text source.bytes source'.bytes bytes has long.1.gave))
+  fault_of fault (inr faulty) = subst (λ l. IsFirstFault l fault) (same faulty.bytes faulty.read) faulty.first
 
-  -- a text that is no TOML document is refused
-  pub refused : (status : Status) → Rests status words source source' out out' → length bytes ≤ longest_text → Stands bytes NotToml
-      → (status ≡ DeckRefused NotToml) ⊎ (status ≡ NoMemory)
-  refused Done rests short stands = absurd ((first_of rests.0 rests.1).accepted NotToml stands)
-  refused (DeckRefused fault) rests short stands = inl (ap DeckRefused rests.not_toml)
-  refused NotBuilt rests short stands = elim (not_built rests) [ inl long ↦ absurd (omega arith) | inr other ↦ absurd (other.toml stands) ]
-  refused ReadFault rests short stands = absurd (stayed_not_rose source.faults source'.faults stayed rests.1)
-  refused WriteFault rests short stands = absurd ((first_of rests.0 rests.1).accepted NotToml stands)
-  refused NoMemory rests short stands = inr refl
+  -- a deck that the program can't run yet is that of the bytes
+  later_of : (NamesRun words → ⊥) ⊎ IsDeckLater words source source' → (deck : Deck) × IsLaterDeck bytes deck
+  later_of (inl unnamed) = absurd (unnamed job)
+  later_of (inr later) = (later.deck, subst (λ l. IsLaterDeck l later.deck) (same later.bytes later.read) later.later)
 
-  -- no first deck has these bytes
-  no_first : (deck : Deck) → ReadsFirst words source source' deck → (longest_text < length bytes) ⊎ IsOtherThanFirst bytes → ⊥
-  no_first deck reads (inl long) = (first_of deck reads).accepted TooLong long
-  no_first deck reads (inr other) = other.not_first deck (first_of deck reads)
+  -- a text with a first fault is refused for it
+  pub refused : (status : Status) → Rests status words source source' out out' → (fault : DeckFault) → IsFirstFault bytes fault
+      → (status ≡ DeckRefused fault) ⊎ (status ≡ NoMemory)
+  refused Done rests fault first = absurd ((first_of rests.0 rests.1).accepted.accepted fault first.stands)
+  refused (DeckRefused other) rests fault first = inl (ap DeckRefused (IsFirstFault-unique bytes other fault (fault_of other rests) first))
+  refused NotBuilt rests fault first = absurd ((later_of rests).1.accepted.accepted fault first.stands)
+  refused ReadFault rests fault first = absurd (stayed_not_rose source.faults source'.faults stayed rests.1)
+  refused WriteFault rests fault first = absurd ((first_of rests.0 rests.1).accepted.accepted fault first.stands)
+  refused NoMemory rests fault first = inr refl
 
-  -- nor are they refused as no TOML document
-  no_refusal : (fault : DeckFault) → IsDeckRefused fault words source source' → (longest_text < length bytes) ⊎ IsOtherThanFirst bytes → ⊥
-  no_refusal fault refusal (inl long) = let short = refusal.short in let e = ap length (same refusal.bytes refusal.read) in omega arith
-  no_refusal fault refusal (inr other) = other.toml (subst (λ l. Stands l NotToml) (same refusal.bytes refusal.read) refusal.stands)
-
-  -- a text that is too long, or a TOML document but no first deck, is answered by NotBuilt
-  pub unbuilt : (status : Status) → Rests status words source source' out out' → (longest_text < length bytes) ⊎ IsOtherThanFirst bytes
+  -- a later deck is answered by NotBuilt
+  pub unbuilt : (status : Status) → Rests status words source source' out out' → (deck : Deck) → IsLaterDeck bytes deck
       → (status ≡ NotBuilt) ⊎ (status ≡ NoMemory)
-  unbuilt Done rests why = absurd (no_first rests.0 rests.1 why)
-  unbuilt (DeckRefused fault) rests why = absurd (no_refusal fault rests why)
-  unbuilt NotBuilt rests why = inl refl
-  unbuilt ReadFault rests why = absurd (stayed_not_rose source.faults source'.faults stayed rests.1)
-  unbuilt WriteFault rests why = absurd (no_first rests.0 rests.1 why)
-  unbuilt NoMemory rests why = inr refl
+  unbuilt Done rests deck later = absurd (not_first_and_later bytes rests.0 deck (first_of rests.0 rests.1) later)
+  unbuilt (DeckRefused fault) rests deck later = absurd (later.accepted.accepted fault (fault_of fault rests).stands)
+  unbuilt NotBuilt rests deck later = inl refl
+  unbuilt ReadFault rests deck later = absurd (stayed_not_rose source.faults source'.faults stayed rests.1)
+  unbuilt WriteFault rests deck later = absurd (not_first_and_later bytes rests.0 deck (first_of rests.0 rests.1) later)
+  unbuilt NoMemory rests deck later = inr refl
 
   -- a first deck is run to its end, where no write failed
   pub run_whole : (status : Status) → Rests status words source source' out out' → (deck : Deck) → IsFirstDeck bytes deck
       → Stayed out.faults out'.faults → (status ≡ Done) ⊎ (status ≡ NoMemory)
   run_whole Done rests deck first kept = inl refl
-  run_whole (DeckRefused fault) rests deck first kept =
-      absurd (first.accepted NotToml (subst (λ l. Stands l NotToml) (same rests.bytes rests.read) rests.stands))
-  run_whole NotBuilt rests deck first kept =
-      elim (not_built rests) [ inl long ↦ absurd (first.accepted TooLong long) | inr other ↦ absurd (other.not_first deck first) ]
+  run_whole (DeckRefused fault) rests deck first kept = absurd (first.accepted.accepted fault (fault_of fault rests).stands)
+  run_whole NotBuilt rests deck first kept = let later = later_of rests in absurd (not_first_and_later bytes deck later.0 first later.1)
   run_whole ReadFault rests deck first kept = absurd (stayed_not_rose source.faults source'.faults stayed rests.1)
   run_whole WriteFault rests deck first kept = absurd (stayed_not_rose out.faults out'.faults kept rests.2.0)
   run_whole NoMemory rests deck first kept = inr refl

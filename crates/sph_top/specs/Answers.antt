@@ -1,12 +1,12 @@
 -- What each answer of the top call says of the words, of the bytes that came and of those that went.
-use Rattle.std.specs.Prelude.{◌≡◌, ℕ, ◌≤◌, ◌⊎◌, List, [], length, Option, String, ⊤}
+use Rattle.std.specs.Prelude.{◌≡◌, ℕ, ◌<◌, ◌⊎◌, List, [], Option, String, ⊤}
 use Rattle.std.specs.declared.alloc.Global.{Global}
 use Rattle.std.specs.Io.KnownBytes.{Appends, Keeps}
 use Rattle.sph_deck.specs.declared.deck.Deck.{Deck}
 use Rattle.sph_deck.specs.declared.fault.DeckFault.{DeckFault}
-use Rattle.sph_deck.specs.declared.fault.DeckFault.TheVariants.{NotToml}
-use Rattle.sph_deck.specs.Faults.{Stands, longest_text}
-use Rattle.sph_deck.specs.FirstDeck.{IsFirstDeck, IsOtherThanFirst}
+use Rattle.sph_deck.specs.declared.fault.DeckFault.TheVariants.{TooLong}
+use Rattle.sph_deck.specs.Faults.{IsAccepted, IsDeckOf, longest_text}
+use Rattle.sph_deck.specs.FirstFault.{IsFirstFault}
 use Rattle.sph_edge.specs.Bytes.{GaveAll, AppendsPrefix}
 use Rattle.sph_edge.specs.Causes.{Rose}
 use Rattle.sph_edge.specs.Whole.{GaveTooMuch}
@@ -30,6 +30,22 @@ pub record WasRead (words : List (String Global)) (source source' : Seen) (bytes
   pub gave : GaveAll source.bytes source'.bytes bytes
   pub none_failed : source'.faults ≡ source.faults
 
+-- an accepted deck and its numbers
+pub record IsAcceptedDeck (bytes : List ℕ) (deck : Deck) : Type 0 where
+  pub accepted : IsAccepted bytes
+  pub numbers : IsDeckOf bytes deck
+
+-- a first deck: accepted, with one snapshot and one time bin
+pub record IsFirstDeck (bytes : List ℕ) (deck : Deck) : Type 0 where
+  pub accepted : IsAcceptedDeck bytes deck
+  pub one_snapshot : deck.params.ticks ≡ 0
+  pub one_bin : deck.params.bin_max ≡ 0
+
+-- a later deck: accepted, with more snapshots or more time bins
+pub record IsLaterDeck (bytes : List ℕ) (deck : Deck) : Type 0 where
+  pub accepted : IsAcceptedDeck bytes deck
+  pub later : (0 < deck.params.ticks) ⊎ (0 < deck.params.bin_max)
+
 -- the job was named, and a first deck was read to its end
 pub record ReadsFirst (words : List (String Global)) (source source' : Seen) (deck : Deck) : Type 0 where
   pub bytes : List ℕ
@@ -43,31 +59,29 @@ pub record IsDone (words : List (String Global)) (source source' out out' err er
   pub output : Appends out.bytes out'.bytes (stream_of deck.particles)
   pub quiet : Keeps err.bytes err'.bytes
 
--- the deck is refused: its text was read to its end, is not too long, and is no TOML document
-pub record IsDeckRefused (fault : DeckFault) (words : List (String Global)) (source source' : Seen) : Type 0 where
-  pub not_toml : fault ≡ NotToml
-  pub bytes : List ℕ
-  pub read : WasRead words source source' bytes
-  pub short : length bytes ≤ longest_text
-  pub stands : Stands bytes NotToml
-
 -- the deck is longer than a deck may be: no more was read than shows it
 pub record IsDeckTooLong (words : List (String Global)) (source source' : Seen) : Type 0 where
   pub job : NamesRun words
   pub gave : GaveTooMuch longest_text source.bytes source'.bytes
   pub none_failed : source'.faults ≡ source.faults
 
--- the deck is a TOML document, but no first deck
-pub record IsDeckOther (words : List (String Global)) (source source' : Seen) : Type 0 where
+-- the deck was read to its end, and this is its first fault
+pub record IsDeckFaulty (fault : DeckFault) (words : List (String Global)) (source source' : Seen) : Type 0 where
   pub bytes : List ℕ
   pub read : WasRead words source source' bytes
-  pub short : length bytes ≤ longest_text
-  pub other : IsOtherThanFirst bytes
+  pub first : IsFirstFault bytes fault
 
--- what isn't built yet: words that are no job, and decks that are no first decks
-abbrev pub IsNotBuilt : List (String Global) → Seen → Seen → Type 0
-IsNotBuilt words source source' =
-    (NamesRun words → ⊥) ⊎ IsDeckTooLong words source source' ⊎ IsDeckOther words source source'
+-- the deck is refused for its first fault
+abbrev pub IsDeckRefused : DeckFault → List (String Global) → Seen → Seen → Type 0
+IsDeckRefused fault words source source' =
+    ((fault ≡ TooLong) × IsDeckTooLong words source source') ⊎ IsDeckFaulty fault words source source'
+
+-- the deck was read to its end, and the program can't run it yet
+pub record IsDeckLater (words : List (String Global)) (source source' : Seen) : Type 0 where
+  pub deck : Deck
+  pub bytes : List ℕ
+  pub read : WasRead words source source' bytes
+  pub later : IsLaterDeck bytes deck
 
 -- nothing was appended, or, where a first deck was read, some of its stream's first bytes
 abbrev pub AppendsSome : List (String Global) → Seen → Seen → Seen → Seen → Type 0
@@ -85,7 +99,8 @@ AppendsToAnEnd words source source' out out' =
 abbrev pub IsCaused : Status → List (String Global) → Seen → Seen → Seen → Seen → Type 0
 IsCaused Done words source source' out out' = ⊥
 IsCaused (DeckRefused fault) words source source' out out' = IsDeckRefused fault words source source'
-IsCaused NotBuilt words source source' out out' = IsNotBuilt words source source'
+IsCaused NotBuilt words source source' out out' =
+    (NamesRun words → ⊥) ⊎ IsDeckLater words source source'
 IsCaused ReadFault words source source' out out' = NamesRun words × Rose source.faults source'.faults
 IsCaused WriteFault words source source' out out' = Rose out.faults out'.faults × AppendsSome words source source' out out'
 IsCaused NoMemory words source source' out out' = AppendsToAnEnd words source source' out out'

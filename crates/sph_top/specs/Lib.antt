@@ -1,7 +1,8 @@
 pub use Rattle.sph_deck.specs.Faults
-pub use Rattle.sph_deck.specs.FirstDeck
+pub use Rattle.sph_deck.specs.FirstFault
 pub use Rattle.sph_edge.specs.Bytes
 pub use Rattle.sph_edge.specs.Causes
+pub use Rattle.sph_report.specs.DeckLines
 pub mod Answers
 pub mod Lines
 pub mod Snapshot

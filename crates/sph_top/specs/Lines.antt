@@ -1,15 +1,15 @@
 -- The line that each answer writes on standard error.
 use Rattle.std.specs.Prelude.{ℕ, List, [], ◌∷◌, ◌++◌, codes}
+use Rattle.sph_report.specs.DeckLines.{deck_line}
 use Rattle.sph_top.specs.declared.status.Status.{Status}
 use Rattle.sph_top.specs.declared.status.Status.TheVariants.{Done, DeckRefused, NotBuilt, ReadFault, WriteFault, NoMemory}
 
 abbrev pub line : List ℕ → List ℕ
 line text = text ++ 10 ∷ []
 
--- the only fault of a deck that is answered so far is that it is no TOML document
 unfoldable pub error_line : Status → List ℕ
 error_line Done = []
-error_line (DeckRefused fault) = line (codes "swiftq: deck refused: not TOML")
+error_line (DeckRefused fault) = deck_line fault
 error_line NotBuilt = line (codes "swiftq: not built")
 error_line ReadFault = line (codes "swiftq: read fault")
 error_line WriteFault = line (codes "swiftq: write fault")

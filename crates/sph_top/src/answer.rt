@@ -1,22 +1,20 @@
 //! The top call.
 ghost use Rattle.std.specs.Prelude.{◌≡◌, ◌<◌, ◌≤◌, ◌⊎◌, List, ℕ, length, Some};
 ghost use Rattle.std.specs.Io.KnownBytes.{Appends};
-ghost use Rattle.sph_deck.specs.Faults.{Stands, longest_text};
-ghost use Rattle.sph_deck.specs.FirstDeck.{IsFirstDeck, IsOtherThanFirst};
+ghost use Rattle.sph_deck.specs.FirstFault.{IsFirstFault};
 ghost use Rattle.sph_deck.specs.declared.deck.Deck.{Deck};
 ghost use Rattle.sph_deck.specs.declared.fault.DeckFault.{DeckFault};
-ghost use Rattle.sph_deck.specs.declared.fault.DeckFault.TheVariants.{NotToml};
 ghost use Rattle.sph_edge.specs.Causes.{Rose, Stayed};
-ghost use Rattle.sph_top.specs.Answers.{seen, IsDone, IsDeckRefused, IsNotBuilt, AppendsSome, AppendsToAnEnd, IsWithoutOutput, TellsWriteFault, Yields};
+ghost use Rattle.sph_top.specs.Answers.{seen, IsDone, IsFirstDeck, IsLaterDeck, IsDeckRefused, IsDeckLater, AppendsSome, AppendsToAnEnd, IsWithoutOutput, TellsWriteFault, Yields};
 ghost use Rattle.sph_top.specs.Lines.{error_line};
 ghost use Rattle.sph_top.specs.Steps.{Rests};
 ghost use Rattle.sph_top.specs.Words.{NamesRun};
 
 use crate::report::report;
-use crate::run::run_first;
+use crate::run::run_deck;
 use crate::status::Status;
 use crate::words::names_run;
-use sph_deck::LONGEST_TEXT;
+use sph_deck::{DeckFault, LONGEST_TEXT};
 use sph_edge::{Gate, ReadEnd, Sink, Source, read_whole};
 use std::alloc::Global;
 use std::thread::Threads;
@@ -25,8 +23,7 @@ use std::thread::Threads;
 /// writes the line of a refusal to `err`.
 ///
 /// So far the one job is `run`, and it runs first decks: accepted decks with `ticks = 0` and
-/// `bin_max = 0`. Other words and decks are answered by `NotBuilt`. `_rt` and `_gate` are for the jobs
-/// that run on several threads.
+/// `bin_max = 0`. Other words and other accepted decks are answered by `NotBuilt`.
 pub fn swiftq<R: Threads + Sync, S: Source, O: Sink, E: Sink, G: Gate>(
     _rt: &R,
     alloc: Global,
@@ -40,21 +37,21 @@ pub fn swiftq<R: Threads + Sync, S: Source, O: Sink, E: Sink, G: Gate>(
     ensures done { result ≡ Status.Done → IsDone words.now (seen S.left S.faults source.old) (seen S.left S.faults source.new)
         (seen O.held O.faults out.old) (seen O.held O.faults out.new) (seen E.held E.faults err.old) (seen E.held E.faults err.new) }
 
-    // A deck is refused exactly where it is no TOML document.
+    // A deck is refused exactly where it has a fault, and for its first.
     ensures deck_refused { (fault : DeckFault) → result ≡ Status.DeckRefused fault
         → IsDeckRefused fault words.now (seen S.left S.faults source.old) (seen S.left S.faults source.new) }
     ensures deck_refused_where { NamesRun words.now → (bytes : List ℕ) → S.left source.old ≡ Some bytes
-        → Stayed (S.faults source.old) (S.faults source.new) → length bytes ≤ longest_text → Stands bytes NotToml
-        → Yields (Status.DeckRefused NotToml) result (seen E.held E.faults err.old) (seen E.held E.faults err.new) }
+        → Stayed (S.faults source.old) (S.faults source.new) → (fault : DeckFault) → IsFirstFault bytes fault
+        → Yields (Status.DeckRefused fault) result (seen E.held E.faults err.old) (seen E.held E.faults err.new) }
 
-    // What isn't built yet: words that are no job, and then nothing is read, and decks that are no first decks.
-    ensures not_built { result ≡ Status.NotBuilt
-        → IsNotBuilt words.now (seen S.left S.faults source.old) (seen S.left S.faults source.new) }
+    // What isn't built yet: words that are no job, and then nothing is read, and accepted decks of more than one snapshot or time bin.
+    ensures not_built { result ≡ Status.NotBuilt → (NamesRun words.now → ⊥)
+        ⊎ IsDeckLater words.now (seen S.left S.faults source.old) (seen S.left S.faults source.new) }
     ensures not_built_for_words { (NamesRun words.now → ⊥)
         → Yields Status.NotBuilt result (seen E.held E.faults err.old) (seen E.held E.faults err.new) }
     ensures nothing_read_for_words { (NamesRun words.now → ⊥) → source.new ≡ source.old }
     ensures not_built_for_deck { NamesRun words.now → (bytes : List ℕ) → S.left source.old ≡ Some bytes
-        → Stayed (S.faults source.old) (S.faults source.new) → (longest_text < length bytes) ⊎ IsOtherThanFirst bytes
+        → Stayed (S.faults source.old) (S.faults source.new) → (deck : Deck) → IsLaterDeck bytes deck
         → Yields Status.NotBuilt result (seen E.held E.faults err.old) (seen E.held E.faults err.new) }
 
     // A fault comes only where a count of faults rose.
@@ -80,7 +77,7 @@ pub fn swiftq<R: Threads + Sync, S: Source, O: Sink, E: Sink, G: Gate>(
         → Stayed (E.faults err.old) (E.faults err.new) → (result ≡ Status.Done) ⊎ (result ≡ Status.NoMemory) }
 {
     let status = answer(alloc, words, source, out);
-    report(status, err)
+    report(alloc, status, err)
 }
 
 /// The answer before its line is written: reads the words and the source, and writes the output.
@@ -99,8 +96,8 @@ fn answer<S: Source, O: Sink>(
         return Status::NotBuilt;
     }
     match read_whole(alloc, source, LONGEST_TEXT) {
-        Ok(bytes) => run_first(alloc, &bytes, out),
-        Err(ReadEnd::TooLong) => Status::NotBuilt,
+        Ok(bytes) => run_deck(alloc, &bytes, out),
+        Err(ReadEnd::TooLong) => Status::DeckRefused(DeckFault::TooLong),
         Err(ReadEnd::Fault) => Status::ReadFault,
         Err(ReadEnd::Memory) => Status::NoMemory,
     }

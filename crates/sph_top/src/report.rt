@@ -1,36 +1,57 @@
 //! The line that an answer writes on standard error.
 ghost use Rattle.std.specs.Prelude.{◌≡◌};
+ghost use Rattle.sph_deck.specs.declared.fault.DeckFault.{DeckFault};
+ghost use Rattle.sph_report.specs.DeckLines.{NamesKey};
 ghost use Rattle.sph_top.specs.Answers.{seen};
 ghost use Rattle.sph_top.specs.Lines.{error_line};
-ghost use Rattle.sph_top.specs.Steps.{Reports};
+ghost use Rattle.sph_top.specs.Steps.{IsTold, NamesItsKey, Reports};
 
 use crate::status::Status;
+use sph_deck::DeckFault;
 use sph_edge::{Failed, Sink, write_whole};
+use sph_report::deck_text;
+use std::alloc::{AllocError, Global};
 
-/// The answer's line; nothing for Done.
+/// The line for memory that ran out.
+const NO_MEMORY: &[u8] = b"swiftq: no memory\n";
+
+/// Writes the line of a refusal, and answers a write fault where that fails. The line of a refused deck
+/// takes memory: where there is none, the answer is `NoMemory`, with its own line.
 #[tactic(auto, unfolding(crate::specs::Lines::error_line))]
-fn line_of(status: &Status) -> &'static [u8]
-    ensures { result.now ≡ error_line status.now }
-{
-    match status {
-        Status::Done => b"",
-        Status::DeckRefused(_) => b"swiftq: deck refused: not TOML\n",
-        Status::NotBuilt => b"swiftq: not built\n",
-        Status::ReadFault => b"swiftq: read fault\n",
-        Status::WriteFault => b"swiftq: write fault\n",
-        Status::NoMemory => b"swiftq: no memory\n",
-    }
-}
-
-/// Writes the line of a refusal, and answers a write fault where that fails.
-pub fn report<E: Sink>(status: Status, err: &mut E) -> Status
+pub fn report<E: Sink>(alloc: Global, status: Status, err: &mut E) -> Status
+    requires { NamesItsKey status }
     ensures told { Reports status result (seen E.held E.faults err.old) (seen E.held E.faults err.new) }
     ensures untouched { status ≡ Status.Done → err.new ≡ err.old }
 {
-    if let Status::Done = status {
-        return status;
+    match status {
+        Status::Done => Status::Done,
+        Status::DeckRefused(fault) => report_refused(alloc, fault, err),
+        Status::NotBuilt => tell(status, b"swiftq: not built\n", err),
+        Status::ReadFault => tell(status, b"swiftq: read fault\n", err),
+        Status::WriteFault => tell(status, b"swiftq: write fault\n", err),
+        Status::NoMemory => tell(status, NO_MEMORY, err),
     }
-    match write_whole(err, line_of(&status)) {
+}
+
+/// The same for a refused deck.
+#[tactic(auto, unfolding(crate::specs::Lines::error_line))]
+fn report_refused<E: Sink>(alloc: Global, fault: DeckFault, err: &mut E) -> Status
+    requires { NamesKey fault }
+    ensures { Reports (Status.DeckRefused fault) result (seen E.held E.faults err.old) (seen E.held E.faults err.new) }
+{
+    match deck_text(alloc, &fault) {
+        Ok(line) => tell(Status::DeckRefused(fault), &line, err),
+        Err(AllocError) => tell(Status::NoMemory, NO_MEMORY, err),
+    }
+}
+
+/// Writes the answer's line, and answers a write fault where that fails.
+fn tell<E: Sink>(status: Status, line: &[u8], err: &mut E) -> Status
+    requires refusal { status ≡ Status.Done → ⊥ }
+    requires line { line.now ≡ error_line status }
+    ensures { IsTold status result (seen E.held E.faults err.old) (seen E.held E.faults err.new) }
+{
+    match write_whole(err, line) {
         Ok(()) => status,
         Err(Failed) => Status::WriteFault,
     }

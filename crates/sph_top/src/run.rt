@@ -1,5 +1,5 @@
 //! Running a deck, and what is answered for it.
-ghost use Rattle.std.specs.Prelude.{◌≡◌, ℕ, ◌<◌, ◌≤◌, ◌++◌, length, slice_index_or, OnOk, OnErr};
+ghost use Rattle.std.specs.Prelude.{◌≡◌, ℕ, ◌<◌, ◌≤◌, ◌++◌, ◌⊎◌, length, slice_index_or, MatchBool, OnOk, OnErr};
 ghost use Rattle.std.specs.Io.KnownBytes.{Appends};
 ghost use Rattle.sph_edge.specs.Bytes.{AppendsPrefix};
 ghost use Rattle.sph_edge.specs.Causes.{HasCause};
@@ -11,22 +11,34 @@ ghost use Rattle.sph_top.specs.Steps.{Writes, Follows};
 
 use crate::snapshot::{END, snapshot};
 use crate::status::Status;
-use sph_deck::{DeckFault, FirstRefusal, read_first};
+use sph_deck::{DeckRefusal, read_deck};
 use sph_edge::{Failed, Sink, write_whole};
-use sph_num::Particle;
+use sph_num::{Params, Particle};
 use std::alloc::Global;
 
-/// Reads a text as a first deck, and writes its stream.
-pub fn run_first<O: Sink>(alloc: Global, bytes: &[u8], out: &mut O) -> Status
+/// Reads a deck, and writes its stream where it is a first one.
+pub fn run_deck<O: Sink>(alloc: Global, bytes: &[u8], out: &mut O) -> Status
     ensures follows { Follows bytes.now result (seen O.held O.faults out.old) (seen O.held O.faults out.new) }
     ensures untouched { IsWithoutOutput result → out.new ≡ out.old }
 {
-    match read_first(alloc, bytes) {
-        Ok(deck) => write_stream(alloc, deck.particles.as_slice(), out),
-        Err(FirstRefusal::NotToml) => Status::DeckRefused(DeckFault::NotToml),
-        Err(FirstRefusal::Other) => Status::NotBuilt,
-        Err(FirstRefusal::Memory) => Status::NoMemory,
+    match read_deck(alloc, bytes) {
+        Ok(deck) => {
+            if is_first(&deck.params) {
+                write_stream(alloc, deck.particles.as_slice(), out)
+            } else {
+                Status::NotBuilt
+            }
+        }
+        Err(DeckRefusal::Fault(fault)) => Status::DeckRefused(fault),
+        Err(DeckRefusal::Memory) => Status::NoMemory,
     }
+}
+
+/// Whether a deck of these parameters is a first one, with one snapshot and one time bin.
+fn is_first(params: &Params) -> bool
+    ensures { MatchBool result ((params.now.ticks ≡ 0) × (params.now.bin_max ≡ 0)) ((0 < params.now.ticks) ⊎ (0 < params.now.bin_max)) }
+{
+    params.ticks == 0 && params.bin_max == 0
 }
 
 /// Writes the stream of a first deck.

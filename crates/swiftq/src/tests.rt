@@ -1,7 +1,8 @@
 //! Whole runs of the top call over sources and sinks in memory.
 ghost use Rattle.std.specs.Prelude.{◌≤◌};
 
-use sph_edge::{MemorySink, MemorySource, NoGate};
+use sph_deck::{DeckFault, DeckRefusal, bound_of, read_deck};
+use sph_edge::{MemorySink, MemorySource, NoGate, Source};
 use sph_top::{Status, swiftq};
 use std::alloc::{AllocError, Global};
 use std::test::Fail;
@@ -22,6 +23,9 @@ const ONE_PARTICLE: [u8; 108] = [
     0x53, 0x50, 0x48, 0x53, 0x4e, 0x45, 0x4e, 0x44,
 ];
 
+/// The rest of a particle at rest on the x axis.
+const AT_REST: &str = "y = 0\nz = 0\npx = 0\npy = 0\npz = 0\n";
+
 /// A particle at rest, by its mass, its smoothing length and its x.
 type Body = (u32, u32, u32);
 
@@ -29,7 +33,7 @@ fn deck(alloc: Global, bodies: &[Body]) -> Result<String, AllocError> {
     let mut text = String::from_str(alloc, BASE)?;
     for &(mass, h, x) in bodies {
         let particle = format!(in alloc;
-            "[[particle]]\nmass = {mass}\nh = {h}\nx = {x}\ny = 0\nz = 0\npx = 0\npy = 0\npz = 0\n"
+            "[[particle]]\nmass = {mass}\nh = {h}\nx = {x}\n{AT_REST}"
         )?;
         text.push_str(particle.as_str())?;
     }
@@ -63,7 +67,7 @@ fn run<R: Threads + Sync>(
     rt: &R,
     alloc: Global,
     job: &str,
-    mut source: MemorySource,
+    source: &mut MemorySource,
     mut out: MemorySink,
     mut err: MemorySink,
 ) -> Result<Outcome, AllocError> {
@@ -75,7 +79,7 @@ fn run<R: Threads + Sync>(
         rt,
         alloc,
         words.as_slice(),
-        &mut source,
+        source,
         &mut out,
         &mut err,
         &NoGate,
@@ -85,12 +89,12 @@ fn run<R: Threads + Sync>(
 
 /// A run of a text with ample room and no failure.
 fn run_text<R: Threads + Sync>(rt: &R, alloc: Global, text: &str) -> Result<Outcome, AllocError> {
-    let source = source(alloc, text, usize::MAX, 0)?;
+    let mut source = source(alloc, text, usize::MAX, 0)?;
     run(
         rt,
         alloc,
         "run",
-        source,
+        &mut source,
         sink(alloc, 16_384, usize::MAX, 0)?,
         sink(alloc, 256, usize::MAX, 0)?,
     )
@@ -171,12 +175,12 @@ fn forty_at_one_point(rt: HostRuntime) -> Result<(), Fail> {
 fn short_sink_fails(rt: HostRuntime) -> Result<(), Fail> {
     let alloc = rt.alloc();
     let text = deck(alloc, &[(1, 131_072, 0)])?;
-    let source = source(alloc, text.as_str(), usize::MAX, 0)?;
+    let mut source = source(alloc, text.as_str(), usize::MAX, 0)?;
     let run = run(
         &rt,
         alloc,
         "run",
-        source,
+        &mut source,
         sink(alloc, 108, 40, 3)?,
         sink(alloc, 256, 256, 0)?,
     )?;
@@ -190,12 +194,12 @@ fn short_sink_fails(rt: HostRuntime) -> Result<(), Fail> {
 fn failing_source(rt: HostRuntime) -> Result<(), Fail> {
     let alloc = rt.alloc();
     let text = deck(alloc, &[(1, 131_072, 0)])?;
-    let source = source(alloc, text.as_str(), 16, 2)?;
+    let mut source = source(alloc, text.as_str(), 16, 2)?;
     let run = run(
         &rt,
         alloc,
         "run",
-        source,
+        &mut source,
         sink(alloc, 108, 108, 0)?,
         sink(alloc, 256, 256, 0)?,
     )?;
@@ -208,12 +212,12 @@ fn failing_source(rt: HostRuntime) -> Result<(), Fail> {
 #[test]
 fn failing_error_sink(rt: HostRuntime) -> Result<(), Fail> {
     let alloc = rt.alloc();
-    let source = source(alloc, "", 16, 0)?;
+    let mut source = source(alloc, "", 16, 0)?;
     let run = run(
         &rt,
         alloc,
         "fly",
-        source,
+        &mut source,
         sink(alloc, 108, 108, 0)?,
         sink(alloc, 256, 256, 1)?,
     )?;
@@ -223,20 +227,87 @@ fn failing_error_sink(rt: HostRuntime) -> Result<(), Fail> {
     Ok(())
 }
 
+/// A source over a deck's text that is filled with line ends to so many bytes.
+fn filled(alloc: Global, text: &str, size: usize) -> Result<MemorySource, AllocError> {
+    let mut bytes = Vec::from_slice(alloc, text.as_bytes())?;
+    let rest = vec![in alloc; 10; size.saturating_sub(text.len())]?;
+    bytes.extend_from_slice(&rest)?;
+    Ok(MemorySource::new(bytes, usize::MAX, Vec::new(alloc)))
+}
+
 #[test]
 fn refusals_tell_their_line(rt: HostRuntime) -> Result<(), Fail> {
     let alloc = rt.alloc();
-    let refused = run_text(&rt, alloc, "a = ")?;
+    let light = deck(alloc, &[(0, 131_072, 0)])?;
+    let cases = [
+        ("", "missing ticks at the top"),
+        ("a = ", "not TOML"),
+        ("a = 1", "unknown key at the top"),
+        (light.as_str(), "mass at particle 1 out of range: 0"),
+    ];
+    for (text, line) in cases {
+        let run = run_text(&rt, alloc, text)?;
+        assert!(rt; matches!(run.status, Status::DeckRefused(_)), "{line}");
+        let want = format!(in alloc; "swiftq: deck refused: {line}\n")?;
+        assert!(rt; run.err.held() == want.as_bytes(), "{line}");
+        assert!(rt; run.out.held().is_empty(), "{line}");
+    }
+    Ok(())
+}
+
+#[test]
+fn longest_text(rt: HostRuntime) -> Result<(), Fail> {
+    let alloc = rt.alloc();
+    let text = deck(alloc, &[(1, 131_072, 0)])?;
+    let mut whole = filled(alloc, text.as_str(), 16_777_216)?;
+    let done = run(
+        &rt,
+        alloc,
+        "run",
+        &mut whole,
+        sink(alloc, 108, 108, 0)?,
+        sink(alloc, 256, 256, 0)?,
+    )?;
+    assert_eq!(rt; done.status, Status::Done);
+    assert!(rt; done.out.held() == ONE_PARTICLE.as_slice());
+
+    // One byte more is taken, and not the one behind it.
+    let mut longer = filled(alloc, text.as_str(), 16_777_218)?;
+    let refused = run(
+        &rt,
+        alloc,
+        "run",
+        &mut longer,
+        sink(alloc, 108, 108, 0)?,
+        sink(alloc, 256, 256, 0)?,
+    )?;
+    assert!(rt; refused.status == Status::DeckRefused(DeckFault::TooLong));
     assert!(rt;
-        matches!(
-            refused.status,
-            Status::DeckRefused(sph_deck::DeckFault::NotToml)
-        )
+        refused.err.held() == b"swiftq: deck refused: longer than 16777216 bytes\n".as_slice()
     );
-    assert!(rt; refused.err.held() == b"swiftq: deck refused: not TOML\n".as_slice());
-    let other = run_text(&rt, alloc, "a = 1")?;
-    assert_eq!(rt; other.status, Status::NotBuilt);
-    assert!(rt; other.err.held() == b"swiftq: not built\n".as_slice());
+    assert_eq!(rt; longer.take(&mut [0; 4]), Ok(1));
+    Ok(())
+}
+
+#[test]
+fn greatest_deck(rt: HostRuntime) -> Result<(), Fail> {
+    let alloc = rt.alloc();
+    let mut text = String::from_str(alloc, BASE)?;
+    for i in 0..32_768u32 {
+        let x = i.saturating_mul(32);
+        let particle = format!(in alloc; "[[particle]]\nmass = 1\nh = 131072\nx = {x}\n{AT_REST}")?;
+        text.push_str(particle.as_str())?;
+    }
+    let deck = read_deck(alloc, text.as_bytes()).ok().ok_or("refused")?;
+    assert_eq!(rt;
+        bound_of(&deck.params, deck.particles.as_slice()),
+        1_675_037_245_440
+    );
+
+    text.push_str("[[particle]]\nmass = 1\nh = 131072\nx = 0\n")?;
+    text.push_str(AT_REST)?;
+    let refusal = read_deck(alloc, text.as_bytes()).err();
+    assert!(rt; refusal == Some(DeckRefusal::Fault(DeckFault::TooMany(32_769))));
     Ok(())
 }
 

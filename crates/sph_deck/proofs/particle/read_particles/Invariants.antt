@@ -1,6 +1,11 @@
-use Rattle.std.proofs.Common.{take}
-use Rattle.sph_deck.specs.Rows.{AreElementsRead}
+use Rattle.std.proofs.Common.{◌≡◌, map, None, take}
+use Rattle.toml.specs.View.{view}
+use Rattle.sph_deck.specs.Meets.{Meets}
+use Rattle.sph_deck.specs.Rows.{AreElementsRead, HasElementFault}
 use Rattle.sph_deck.proofs.particle.read_particles.Given as goal
 
 abbrev pub invariant-loop-i : goal.invariant-loop-i
-invariant-loop-i l = AreElementsRead (take l.i l.array) l.particles.items
+invariant-loop-i l = record {
+  met : Meets (HasElementFault (map view (take l.i l.array))) l.fn.faults.first l.faults.first;
+  read : l.faults.first ≡ None → AreElementsRead (take l.i l.array) l.particles.items;
+}

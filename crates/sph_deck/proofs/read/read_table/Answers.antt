@@ -1,26 +1,26 @@
-use Rattle.std.proofs.Common.{map, refl}
-use Rattle.std.proofs.lemmas.Result.{err_from_is_err_and}
-use Rattle.toml.specs.View.{table_view, view}
+use Rattle.std.proofs.Common.{None}
+use Rattle.toml.specs.View.{table_view}
 use Rattle.sph_deck.specs.Faults.{StandsInTable}
-use Rattle.sph_deck.specs.Rows.{HasElementFault}
-use Rattle.sph_deck.proofs.Array.{elements-found}
-use Rattle.sph_deck.proofs.Standing.{fault_of_row, fault_of_elements, refusal_weaker}
+use Rattle.sph_deck.specs.Meets.{Meets}
+use Rattle.sph_deck.proofs.Parts.{table_met}
 use Rattle.sph_deck.proofs.Tables.{table_read}
+use Rattle.sph_deck.proofs.Walks.{first_met, none_before, none_met}
 use Rattle.sph_deck.proofs.read.read_table.Goals as goal
 
-pub returns-in_err-params : goal.returns-in_err-params
-returns-in_err-params c =
-    let p = err_from_is_err_and c.from_residual.result c.from_residual.ensures.1 in
-    rw (p.1, p.2) (fault_of_row _ 0 _ _ refl c.in_err-params.ensures)
+pub returns-in-Some : goal.returns-in-Some
+returns-in-Some c =
+    let top = table_view c.args.top.now in
+    let all : Meets (StandsInTable top) None c.read_particles.new.faults.first =
+    table_met top c.particle_elements-values.result.now c.particle_elements-values.ensures.elements c.read_params-params.ensures.faults c.particle_elements-values.ensures.faults c.in_ok-particles.ensures.faults in
+    first_met _ c.in-Some.fault all c.in-Some.is
 
-pub returns-in_err-particles : goal.returns-in_err-particles
-returns-in_err-particles c =
-    let p = err_from_is_err_and c.from_residual-in_err-particles.result c.from_residual-in_err-particles.ensures.1 in
-    let e = elements-found (table_view c.args.top.now) c.in_ok-values.values.now c.in_ok-values.ensures.found in
-    rw (p.1, p.2)
-    (refusal_weaker (HasElementFault (map view c.in_ok-values.values.now)) (StandsInTable (table_view c.args.top.now)) _
-    (λ fault has. fault_of_elements (table_view c.args.top.now) fault (rw e has)) c.in_err-particles.ensures)
-
-pub returns : goal.returns
-returns c =
-    table_read _ _ c.in_ok-values.values.now _ c.in_ok-params.ensures c.in_ok-values.ensures c.in_ok-particles.ensures
+pub returns-in-None : goal.returns-in-None
+returns-in-None c =
+    let top = table_view c.args.top.now in
+    let values = c.particle_elements-values in
+    let all : Meets (StandsInTable top) None c.read_particles.new.faults.first =
+    table_met top values.result.now values.ensures.elements c.read_params-params.ensures.faults values.ensures.faults c.in_ok-particles.ensures.faults in
+    let none = c.in-None.is in
+    let none_elements = none_before _ _ c.in_ok-particles.ensures.faults none in
+    let none_params = none_before _ _ values.ensures.faults none_elements in
+    table_read top _ values.result.now _ (c.read_params-params.ensures.read none_params) values.ensures.elements (values.ensures.fits none_elements) (c.in_ok-particles.ensures.read none) (none_met all none)

@@ -1,0 +1,2 @@
+pub use Rattle.sph_deck.specs.Keys
+pub mod DeckLines
