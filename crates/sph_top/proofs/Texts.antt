@@ -1,9 +1,10 @@
 -- What is answered for a text, from what was made of it.
-use Rattle.std.proofs.Common.{◌≡◌, ℕ, List, subst, inl, inr}
+use Rattle.std.proofs.Common.{◌≡◌, ℕ, ◌≤◌, List, length, subst, inl, inr}
 use Rattle.std.specs.Prelude.{String}
 use Rattle.std.specs.declared.alloc.Global.{Global}
 use Rattle.sph_deck.specs.declared.deck.Deck.{Deck}
 use Rattle.sph_num.specs.declared.particle.Particle.{Particle}
+use Rattle.sph_deck.specs.Faults.{longest_text}
 use Rattle.sph_edge.specs.Bytes.{GaveAll}
 use Rattle.sph_top.specs.declared.status.Status.{Status}
 use Rattle.sph_top.specs.declared.status.Status.TheVariants.{Done, DeckRefused, NotBuilt, ReadFault, WriteFault, NoMemory}
@@ -30,22 +31,22 @@ Follows-writes bytes deck list status out out' first is wrote =
 
 -- what is answered for a text rests on its being read
 Rests-follows_read : (words : List (String Global)) (source source' out out' : Seen) (bytes : List ℕ) (status : Status) → WasRead words source source' bytes
-    → Follows bytes status out out' → Rests status words source source' out out'
-Rests-follows_read words source source' out out' bytes Done read follows =
+    → length bytes ≤ longest_text → Follows bytes status out out' → Rests status words source source' out out'
+Rests-follows_read words source source' out out' bytes Done read short follows =
     (follows.0, record { bytes = bytes; read = read; first = follows.1 }, follows.2)
-Rests-follows_read words source source' out out' bytes (DeckRefused fault) read follows =
-    inr (record { bytes = bytes; read = read; first = follows })
-Rests-follows_read words source source' out out' bytes NotBuilt read follows =
+Rests-follows_read words source source' out out' bytes (DeckRefused fault) read short follows =
+    inr (record { bytes = bytes; read = read; short = short; first = follows })
+Rests-follows_read words source source' out out' bytes NotBuilt read short follows =
     inr (record { deck = follows.0; bytes = bytes; read = read; later = follows.1 })
-Rests-follows_read words source source' out out' bytes ReadFault read follows = absurd follows
-Rests-follows_read words source source' out out' bytes WriteFault read follows =
+Rests-follows_read words source source' out out' bytes ReadFault read short follows = absurd follows
+Rests-follows_read words source source' out out' bytes WriteFault read short follows =
     (follows.0, record { bytes = bytes; read = read; first = follows.1 }, follows.2)
-Rests-follows_read words source source' out out' bytes NoMemory read follows = (read.job, inl follows)
+Rests-follows_read words source source' out out' bytes NoMemory read short follows = (read.job, inl follows)
 
 -- the same for the text as a slice of what was read gives it
 pub Rests-follows : (words : List (String Global)) (source source' out out' : Seen) (bytes text : List ℕ) (status : Status) → NamesRun words
-    → GaveAll source.bytes source'.bytes bytes → source'.faults ≡ source.faults → text ≡ bytes
+    → GaveAll source.bytes source'.bytes bytes × (length bytes ≤ longest_text) → source'.faults ≡ source.faults → text ≡ bytes
     → Follows text status out out' → Rests status words source source' out out'
 Rests-follows words source source' out out' bytes text status job gave none_failed is follows =
-    Rests-follows_read words source source' out out' bytes status (record { job = job; gave = gave; none_failed = none_failed })
+    Rests-follows_read words source source' out out' bytes status (record { job = job; gave = gave.0; none_failed = none_failed }) gave.1
     (subst (λ t. Follows t status out out') is follows)

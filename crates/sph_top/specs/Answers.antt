@@ -1,5 +1,5 @@
 -- What each answer of the top call says of the words, of the bytes that came and of those that went.
-use Rattle.std.specs.Prelude.{◌≡◌, ℕ, ◌<◌, ◌⊎◌, List, [], Option, String, ⊤}
+use Rattle.std.specs.Prelude.{◌≡◌, ℕ, ◌<◌, ◌≤◌, ◌⊎◌, List, [], length, Option, String, ⊤}
 use Rattle.std.specs.declared.alloc.Global.{Global}
 use Rattle.std.specs.Io.KnownBytes.{Appends, Keeps}
 use Rattle.sph_deck.specs.declared.deck.Deck.{Deck}
@@ -65,10 +65,11 @@ pub record IsDeckTooLong (words : List (String Global)) (source source' : Seen) 
   pub gave : GaveTooMuch longest_text source.bytes source'.bytes
   pub none_failed : source'.faults ≡ source.faults
 
--- the deck was read to its end, and this is its first fault
+-- the deck, which isn't too long, was read to its end, and this is its first fault
 pub record IsDeckFaulty (fault : DeckFault) (words : List (String Global)) (source source' : Seen) : Type 0 where
   pub bytes : List ℕ
   pub read : WasRead words source source' bytes
+  pub short : length bytes ≤ longest_text
   pub first : IsFirstFault bytes fault
 
 -- the deck is refused for its first fault

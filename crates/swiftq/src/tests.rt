@@ -256,6 +256,36 @@ fn refusals_tell_their_line(rt: HostRuntime) -> Result<(), Fail> {
 }
 
 #[test]
+fn later_decks_are_not_built(rt: HostRuntime) -> Result<(), Fail> {
+    let alloc = rt.alloc();
+    let one = deck(alloc, &[(1, 131_072, 0)])?;
+    let rest = one
+        .as_str()
+        .strip_prefix("ticks = 0\nevery = 1\nbin_min = 0\nbin_max = 0\n")
+        .ok_or("top")?;
+    let ticking = format!(in alloc; "ticks = 1\nevery = 1\nbin_min = 0\nbin_max = 0\n{rest}")?;
+    let binned = format!(in alloc; "ticks = 0\nevery = 4\nbin_min = 0\nbin_max = 2\n{rest}")?;
+    for (job, text) in [("fly", &one), ("run", &ticking), ("run", &binned)] {
+        let mut source = source(alloc, text.as_str(), usize::MAX, 0)?;
+        let run = run(
+            &rt,
+            alloc,
+            job,
+            &mut source,
+            sink(alloc, 108, 108, 0)?,
+            sink(alloc, 256, 256, 0)?,
+        )?;
+        assert_eq!(rt; run.status, Status::NotBuilt, "{job}");
+        assert!(rt;
+            run.err.held() == b"swiftq: not built\n".as_slice(),
+            "{job}"
+        );
+        assert!(rt; run.out.held().is_empty(), "{job}");
+    }
+    Ok(())
+}
+
+#[test]
 fn longest_text(rt: HostRuntime) -> Result<(), Fail> {
     let alloc = rt.alloc();
     let text = deck(alloc, &[(1, 131_072, 0)])?;

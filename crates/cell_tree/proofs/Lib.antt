@@ -1,0 +1,15 @@
+pub mod Bounds
+pub mod Counts
+pub mod Cubes
+pub mod Family
+pub mod FoundChildren
+pub mod Growth
+pub mod LeafCounts
+pub mod Members
+pub mod Nest
+pub mod OctantLists
+pub mod Orders
+pub mod Partition
+pub mod Shape
+pub mod TreeLists
+pub mod Under
