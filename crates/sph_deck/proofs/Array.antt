@@ -10,7 +10,7 @@ use Rattle.sph_deck.specs.declared.fault.DeckFault.TheVariants.{Missing, WrongKi
 use Rattle.sph_deck.specs.declared.key.Key.TheVariants.{Particle}
 use Rattle.sph_deck.specs.Document.{value_at, elements, elements_at, list_of_items}
 use Rattle.sph_deck.specs.Faults.{StandsInTable}
-use Rattle.sph_deck.specs.Judged.{place_of}
+use Rattle.sph_deck.specs.Judged.{place_at}
 use Rattle.sph_deck.specs.Meets.{Meets}
 use Rattle.sph_deck.specs.Rows.{judged_array, judged_items, IsArrayFault, IsCountFault}
 
@@ -55,14 +55,14 @@ pub elements_judged : (top : Members) (values : List Value) → judged_array (va
 elements_judged top values h = elements-found top values (array_found top (items_view values) h)
 
 -- a value that has no items is of a wrong kind
-no_array : (value : Data) (o : Option Items) (fault : DeckFault) → as_array value ≡ o → judged_items o ≡ Err fault → (o ≡ None) × (WrongKind (place_of Particle 0) ≡ fault)
+no_array : (value : Data) (o : Option Items) (fault : DeckFault) → as_array value ≡ o → judged_items o ≡ Err fault → (o ≡ None) × (WrongKind (place_at Particle 0) ≡ fault)
 no_array value None fault is h = (refl, cc)
 no_array value (Some ds) fault is h = cc
 
 -- the fault, by what stands at the key
 fault_of : (top : Members) (v : Option Data) (fault : DeckFault) → value_at Particle top ≡ v → judged_array v ≡ Err fault → StandsInTable top fault
 fault_of top None fault is h =
-    let same : Missing (place_of Particle 0) ≡ fault = cc in
+    let same : Missing (place_at Particle 0) ≡ fault = cc in
     rw (← same) (record { key = Particle; table = top; at = record { number = refl; own = refl; row = refl }; missing = is })
 fault_of top (Some value) fault is h =
     let (none, same) = no_array value (as_array value) fault refl h in

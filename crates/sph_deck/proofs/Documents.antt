@@ -15,10 +15,7 @@ use Rattle.sph_deck.specs.Faults.{IsAccepted, IsDeckOf, IsReadable, StandsInTabl
 use Rattle.sph_deck.specs.FirstFault.{AnswersDeck, IsFirstFault, IsNoLater}
 use Rattle.sph_deck.specs.Meets.{IsFirst}
 use Rattle.sph_deck.specs.Rows.{IsRefusal, IsTableRead}
-
--- the bytes are one document
-same_top : (bytes : List ℕ) (top other : Members) → IsDocument bytes top → IsDocument bytes other → other ≡ top
-same_top bytes top other document another = let a = document.parsed in let b = another.parsed in cc
+use Rattle.sph_deck.proofs.FirstFaults.{IsDocument-unique}
 
 -- the numbers of an accepted deck agree
 agree : (params : Params) (particles : List Particle) (fault : DeckFault) → AreAccepted params particles → Disagree params particles fault → ⊥
@@ -36,23 +33,23 @@ module _ (bytes : List ℕ) (top : Members) (document : IsDocument bytes top) (s
   standing Q in_table between NotToml h = absurd (h top document)
   standing Q in_table between (BadEvery every unit) (other, readable, a, b, bad) =
       let P : Members → Type 0 = λ t. IsReadable bytes t × Disagree (params_of t) (particles_of t) (BadEvery every unit) in
-      let here = subst P (same_top bytes top other document readable.document) (readable, (a, b, bad)) in
+      let here = subst P (IsDocument-unique bytes other top readable.document document) (readable, (a, b, bad)) in
       between here.0 (BadEvery every unit) here.1
   standing Q in_table between (BadTicks ticks every) (other, readable, a, b, bad) =
       let P : Members → Type 0 = λ t. IsReadable bytes t × Disagree (params_of t) (particles_of t) (BadTicks ticks every) in
-      let here = subst P (same_top bytes top other document readable.document) (readable, (a, b, bad)) in
+      let here = subst P (IsDocument-unique bytes other top readable.document document) (readable, (a, b, bad)) in
       between here.0 (BadTicks ticks every) here.1
   standing Q in_table between (BadBins low high) (other, readable, a, b, bad) =
       let P : Members → Type 0 = λ t. IsReadable bytes t × Disagree (params_of t) (particles_of t) (BadBins low high) in
-      let here = subst P (same_top bytes top other document readable.document) (readable, (a, b, bad)) in
+      let here = subst P (IsDocument-unique bytes other top readable.document document) (readable, (a, b, bad)) in
       between here.0 (BadBins low high) here.1
   standing Q in_table between (Sums bound) (other, readable, a, bad) =
       let P : Members → Type 0 = λ t. IsReadable bytes t × Disagree (params_of t) (particles_of t) (Sums bound) in
-      let here = subst P (same_top bytes top other document readable.document) (readable, (a, bad)) in
+      let here = subst P (IsDocument-unique bytes other top readable.document document) (readable, (a, bad)) in
       between here.0 (Sums bound) here.1
   standing Q in_table between fault h =
       let P : Members → Type 0 = λ t. StandsInTable t fault in
-      in_table fault (subst P (same_top bytes top h.0 document h.1) h.2)
+      in_table fault (subst P (IsDocument-unique bytes h.0 top h.1 document) h.2)
 
   -- a fault of the table stands in the bytes
   table_stands : (fault : DeckFault) → StandsInTable top fault → Stands bytes fault

@@ -8,7 +8,7 @@ use Rattle.sph_num.specs.Ranges.{AreParamsInRange, IsBody, IsDeckMomentum}
 use Rattle.toml.specs.Data.{Data, Members, as_table}
 use Rattle.sph_deck.specs.declared.key.Key.{Key}
 use Rattle.sph_deck.specs.declared.key.Key.TheVariants.{Ticks, Every, BinMin, BinMax, Sound, Shift, Accuracy, Leaf, Pairs, Slack, Mass, H, X, Y, Z, Px, Py, Pz}
-use Rattle.sph_deck.specs.Agreement.{AreInRange}
+use Rattle.sph_deck.specs.Accepted.{AreInRange}
 use Rattle.sph_deck.specs.Document.{elements, integer_at, whole_at, params_of, particle_of, particles_of}
 use Rattle.sph_deck.specs.Judged.{IsReadAt, IsWithin}
 use Rattle.sph_deck.specs.Keys.{range_of}
@@ -131,6 +131,7 @@ numbers_within top clean =
       params_in_range = params_within top clean.row;
       bodies = λ k d low. All-map IsBody particle_of rows (All-weaker (AreNumbersRead false) (λ t. IsBody (particle_of t)) body_within rows tables) k d low;
       momenta = λ k d low. All-map IsDeckMomentum particle_of rows (All-weaker (AreNumbersRead false) (λ t. IsDeckMomentum (particle_of t)) momenta_within rows tables) k d low;
+      axes = λ k d low. All-map (λ p. length p.p ≡ 3) particle_of rows (All-weaker (AreNumbersRead false) (λ t. length (particle_of t).p ≡ 3) (λ t n. refl) rows tables) k d low;
       some = rw count clean.some;
       not_too_many = rw count clean.few;
     }

@@ -9,6 +9,8 @@ pub mod Standing
 pub mod Parts
 pub mod Tables
 pub mod InRange
+pub mod FirstFaults
+pub mod KeyNumbers
 pub mod Documents
 pub mod TextBound
 pub mod Extremes

@@ -15,8 +15,7 @@ use Rattle.toml.specs.View.{members_view}
 use Rattle.toml.specs.declared.value.Value.{Value}
 use Rattle.sph_deck.specs.declared.key.Key.{Key}
 use Rattle.sph_deck.specs.declared.key.Key.TheVariants.{Ticks}
-use Rattle.sph_deck.specs.declared.row.TheConstants.{KEYS}
-use Rattle.sph_deck.specs.Keys.{name_of, is_of_top}
+use Rattle.sph_deck.specs.Keys.{keys, name_of, is_of_top}
 use Rattle.sph_deck.specs.Row.{key_of, IsKnownName, IsUnknownName, AreNamesKnown, HasUnknownName}
 
 -- an entry of a table's map
@@ -42,7 +41,7 @@ found_passes p (y ∷ ys) x h =
 name_of_found : (name : List ℕ) (key : Key) → key_of name ≡ Some key → name_of key ≡ name
 unfolding key_of
 name_of_found name key h =
-    (bytes_eq-Decides (name_of key) name).0 (found_passes (λ k. bytes_eq (name_of k) name) KEYS key h)
+    (bytes_eq-Decides (name_of key) name).0 (found_passes (λ k. bytes_eq (name_of k) name) keys key h)
 
 -- a name of some key is found
 found_named : (name : List ℕ) (key : Key) → name_of key ≡ name → key_of name ≡ Some key

@@ -13,7 +13,7 @@ use Rattle.sph_deck.specs.declared.key.Key.{Key}
 use Rattle.sph_deck.specs.declared.key.Key.TheVariants.{Particle}
 use Rattle.sph_deck.specs.Document.{value_at, elements, table_at}
 use Rattle.sph_deck.specs.Faults.{IsKeyOf, IsMissingAt, IsNoTableAt, IsOfKind, IsOutside, IsUnknownAt, IsWrongAt, StandsInTable}
-use Rattle.sph_deck.specs.Judged.{place_of, judged, is_within}
+use Rattle.sph_deck.specs.Judged.{place_at, judged, is_within}
 use Rattle.sph_deck.specs.Keys.{is_top, number_of, range_of, IsOwn}
 use Rattle.sph_deck.specs.Meets.{Meets}
 use Rattle.sph_deck.specs.Row.{IsRowFault, unknown_name, at_key}
@@ -53,16 +53,16 @@ row_part top zero table fault at h =
 row_part top (suc i) table fault at h =
     option_and_then_some as_table (slice_get (elements top) i) table at
     (λ element found is.
-    let P : Option Members → Type 0 = λ o. MatchOption o (fault ≡ WrongKind (place_of Particle (suc i))) (λ t. IsRowFault false (suc i) t fault) in
+    let P : Option Members → Type 0 = λ o. MatchOption o (fault ≡ WrongKind (place_at Particle (suc i))) (λ t. IsRowFault false (suc i) t fault) in
     inr (inr (record { index = i; element = element; found = found; wrong = subst P (sym is) h })))
 
 -- the fault at a key that wants an integer, of this kind at its place
 key_part : (top : Members) (place : Place) (key : Key) (table : Members) (kind : Place → DeckFault) → IsKeyOf top place key table → IsSome (range_of key)
-    → judged key place.row (value_at key table) ≡ Err (kind (place_of key place.row)) → IsOfPart top (kind place)
+    → judged key place.row (value_at key table) ≡ Err (kind (place_at key place.row)) → IsOfPart top (kind place)
 key_part top place key table kind at wants is =
     let P : Place → Type 0 = λ p. IsRowFault (is_top place.row) place.row table (kind p) in
     row_part top place.row table (kind place) at.row
-    (subst P (place_is place (number_of key) at.number) (at_key key (kind (place_of key place.row)) at.own wants is))
+    (subst P (place_is place (number_of key) at.number) (at_key key (kind (place_at key place.row)) at.own wants is))
 
 -- the key of the array is one of the top's
 array_at : (top : Members) (row : ℕ) (table : Members) → IsOwn Particle row → table_at top row ≡ Some table → (row ≡ 0) × (top ≡ table)
@@ -71,20 +71,20 @@ array_at top (suc i) table own at = cc
 
 -- the fault at that key
 array_part : (top : Members) (place : Place) (key : Key) (table : Members) (kind : Place → DeckFault) → IsKeyOf top place key table → key ≡ Particle
-    → judged_array (value_at key table) ≡ Err (kind (place_of Particle 0)) → IsOfPart top (kind place)
+    → judged_array (value_at key table) ≡ Err (kind (place_at Particle 0)) → IsOfPart top (kind place)
 array_part top place key table kind at is h =
     let own : IsOwn Particle place.row = subst (λ (k : Key). IsOwn k place.row) is at.own in
     let (zeroth, same) = array_at top place.row table own at.row in
     let number : place.key ≡ 11 = at.number ∙ ap number_of is in
-    let there : place_of Particle 0 ≡ place = ap (λ (row : ℕ). place_at row) (sym zeroth) ∙ place_is place 11 number in
-    let judged_there : judged_array (value_at Particle top) ≡ Err (kind (place_of Particle 0)) = let e = ap (λ (k : Key). value_at k table) is in rw (same, ← e) h in
+    let there : place_at Particle 0 ≡ place = ap (λ (row : ℕ). place_in_row row) (sym zeroth) ∙ place_is place 11 number in
+    let judged_there : judged_array (value_at Particle top) ≡ Err (kind (place_at Particle 0)) = let e = ap (λ (k : Key). value_at k table) is in rw (same, ← e) h in
     inr (inl (rw judged_there (ap kind (sym there))))
   where
-    place_at : ℕ → Place
-    place_at row = record { key = 11; row = row }
+    place_in_row : ℕ → Place
+    place_in_row row = record { key = 11; row = row }
 
 -- a missing value is judged so
-judged_missing : (key : Key) (row : ℕ) (v : Option Data) → v ≡ None → judged key row v ≡ Err (Missing (place_of key row))
+judged_missing : (key : Key) (row : ℕ) (v : Option Data) → v ≡ None → judged key row v ≡ Err (Missing (place_at key row))
 unfolding judged
 judged_missing key row v is = rw is refl
 
@@ -95,12 +95,12 @@ no_integer (Some range) value None some is wrong = refl
 no_integer (Some range) value (Some z) some is wrong = absurd (wrong (rw is refl))
 
 -- so it is judged so
-judged_wrong : (key : Key) (row : ℕ) (v : Option Data) (value : Data) → v ≡ Some value → as_integer value ≡ None → judged key row v ≡ Err (WrongKind (place_of key row))
+judged_wrong : (key : Key) (row : ℕ) (v : Option Data) (value : Data) → v ≡ Some value → as_integer value ≡ None → judged key row v ≡ Err (WrongKind (place_at key row))
 unfolding judged
 judged_wrong key row v value found none = rw (found, none) refl
 
 -- a value of another kind has no items
-no_items_at : (range : Option (ℤ × ℤ)) (value : Data) (o : Option Items) → range ≡ None → as_array value ≡ o → (IsOfKind range value → ⊥) → judged_items o ≡ Err (WrongKind (place_of Particle 0))
+no_items_at : (range : Option (ℤ × ℤ)) (value : Data) (o : Option Items) → range ≡ None → as_array value ≡ o → (IsOfKind range value → ⊥) → judged_items o ≡ Err (WrongKind (place_at Particle 0))
 no_items_at None value None none is wrong = refl
 no_items_at None value (Some items) none is wrong = absurd (wrong (rw is refl))
 no_items_at (Some range) value o none is wrong = cc
@@ -111,7 +111,7 @@ out_of low high z outside = elim (cases_Bool (is_within (low, high) z)) [ inl wi
 
 -- so it is judged so
 judged_outside : (key : Key) (row : ℕ) (v : Option Data) (z low high : ℤ) → v ≡ Some (integer z) → range_of key ≡ Some (low, high) → is_within (low, high) z ≡ false
-    → judged key row v ≡ Err (OutOfRange (place_of key row) z)
+    → judged key row v ≡ Err (OutOfRange (place_at key row) z)
 unfolding judged
 judged_outside key row v z low high found ranges out = rw (found, ranges, out) refl
 
@@ -145,8 +145,8 @@ wrong_part top place w =
 -- of an element that is no table
 no_table_part : (top : Members) (place : Place) → IsNoTableAt top place → IsOfPart top (WrongKind place)
 no_table_part top place n =
-    let there : place_of Particle (suc n.index) ≡ place = rw (← n.row) (place_is place 11 n.number) in
-    let P : Option Members → Type 0 = λ o. MatchOption o (WrongKind place ≡ WrongKind (place_of Particle (suc n.index))) (λ table. IsRowFault false (suc n.index) table (WrongKind place)) in
+    let there : place_at Particle (suc n.index) ≡ place = rw (← n.row) (place_is place 11 n.number) in
+    let P : Option Members → Type 0 = λ o. MatchOption o (WrongKind place ≡ WrongKind (place_at Particle (suc n.index))) (λ table. IsRowFault false (suc n.index) table (WrongKind place)) in
     inr (inr (record { index = n.index; element = n.element; found = n.found; wrong = subst P (sym n.no_table) (ap WrongKind (sym there)) }))
 
 -- and of an integer outside its range

@@ -9,7 +9,7 @@ use Rattle.sph_deck.specs.declared.key.Key.{Key}
 use Rattle.sph_deck.specs.declared.key.Key.TheVariants.{Particle}
 use Rattle.sph_deck.specs.Document.{value_at, elements, table_at}
 use Rattle.sph_deck.specs.Faults.{IsKeyOf, IsOfKind, StandsInTable}
-use Rattle.sph_deck.specs.Judged.{place_of, judged, judged_number, judged_integer, is_within}
+use Rattle.sph_deck.specs.Judged.{place_at, judged, judged_number, judged_integer, is_within}
 use Rattle.sph_deck.specs.Keys.{is_top, range_of}
 use Rattle.sph_deck.specs.Row.{IsRowFault, unknown_name, at_key}
 use Rattle.sph_deck.specs.Rows.{HasElementFault}
@@ -23,7 +23,7 @@ integer_is _ z h = cc
 out_of_range : (range : ℤ × ℤ) (z : ℤ) → is_within range z ≡ false → (range.0 ≤ℤ z) × (z ≤ℤ range.1) → ⊥
 out_of_range range z out ends = grind (arith, ints)
 
-module _ (top : Members) (row : ℕ) (table : Members) (key : Key) (fault : DeckFault) (at : IsKeyOf top (place_of key row) key table) where
+module _ (top : Members) (row : ℕ) (table : Members) (key : Key) (fault : DeckFault) (at : IsKeyOf top (place_at key row) key table) where
   -- an integer outside the key's range
   stands_by_integer : (value : Data) (z : ℤ) (o : Option (ℤ × ℤ)) → value_at key table ≡ Some value → value ≡ integer z → range_of key ≡ o → IsSome o → judged_integer key row o z ≡ Err fault → StandsInTable top fault
   stands_by_integer value z None found is ranges some h = absurd (false≢true some)
@@ -31,7 +31,7 @@ module _ (top : Members) (row : ℕ) (table : Members) (key : Key) (fault : Deck
       elim (cases_Bool (is_within range z)) [
         | inl within ↦ let e = rw within at h in cc
         | inr out ↦
-            let e : OutOfRange (place_of key row) z ≡ fault = let e = rw out at h in cc in
+            let e : OutOfRange (place_at key row) z ≡ fault = let e = rw out at h in cc in
             rw (← e)
             (record { key = key; table = table; at = at; found = found ∙ ap Some is; low = range.0; high = range.1; range = ranges; outside = out_of_range range z out })
       ]
@@ -44,7 +44,7 @@ module _ (top : Members) (row : ℕ) (table : Members) (key : Key) (fault : Deck
   -- a value that may be no integer
   stands_by_number : (value : Data) (o : Option ℤ) → value_at key table ≡ Some value → as_integer value ≡ o → IsSome (range_of key) → judged_number key row o ≡ Err fault → StandsInTable top fault
   stands_by_number value None found is wants h =
-      let e : WrongKind (place_of key row) ≡ fault = cc in
+      let e : WrongKind (place_at key row) ≡ fault = cc in
       rw (← e)
       (inl (record { key = key; table = table; at = at; value = value; found = found; wrong = no_integer (range_of key) value wants is }))
   stands_by_number value (Some z) found is wants h = stands_by_integer value z (range_of key) found (integer_is value z is) refl wants h
@@ -53,7 +53,7 @@ module _ (top : Members) (row : ℕ) (table : Members) (key : Key) (fault : Deck
   stands_by_value : (v : Option Data) → value_at key table ≡ v → IsSome (range_of key) → judged key row v ≡ Err fault → StandsInTable top fault
   unfolding judged
   stands_by_value None is wants h =
-      let e : Missing (place_of key row) ≡ fault = cc in
+      let e : Missing (place_at key row) ≡ fault = cc in
       rw (← e) (record { key = key; table = table; at = at; missing = is })
   stands_by_value (Some value) is wants h = stands_by_number value (as_integer value) is refl wants h
 
@@ -66,7 +66,7 @@ fault_of_row top row table fault at (at_key key f own wants is) =
 
 -- the fault of an element, by whether it is a table
 fault_by_table : (top : Members) (i : ℕ) (element : Data) (fault : DeckFault) (o : Option Members) → slice_get (elements top) i ≡ Some element → as_table element ≡ o
-    → MatchOption o (fault ≡ WrongKind (place_of Particle (suc i))) (λ table. IsRowFault false (suc i) table fault) → StandsInTable top fault
+    → MatchOption o (fault ≡ WrongKind (place_at Particle (suc i))) (λ table. IsRowFault false (suc i) table fault) → StandsInTable top fault
 fault_by_table top i element fault None found is wrong =
     rw wrong (inr (record { number = refl; index = i; row = refl; element = element; found = found; no_table = is }))
 fault_by_table top i element fault (Some table) found is wrong =

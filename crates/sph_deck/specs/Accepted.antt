@@ -5,13 +5,18 @@ use Rattle.sph_num.specs.declared.particle.Params.{Params}
 use Rattle.sph_num.specs.declared.particle.Particle.{Particle}
 use Rattle.sph_num.specs.Ranges.{AreParamsInRange, IsBody, IsDeckMomentum}
 
--- every number is in its range, and the numbers fit together
-pub record AreAccepted (params : Params) (particles : List Particle) : Type 0 where
+-- each number is in its range, and there are as many particles as a deck may have
+pub record AreInRange (params : Params) (particles : List Particle) : Type 0 where
   pub params_in_range : AreParamsInRange params
   pub bodies : (k : ℕ) (d : Particle) → k < length particles → IsBody (slice_index_or particles k d)
   pub momenta : (k : ℕ) (d : Particle) → k < length particles → IsDeckMomentum (slice_index_or particles k d)
+  pub axes : (k : ℕ) (d : Particle) → k < length particles → length (slice_index_or particles k d).p ≡ 3
   pub some : 1 ≤ length particles
   pub not_too_many : length particles ≤ 32768
+
+-- and the numbers fit together
+pub record AreAccepted (params : Params) (particles : List Particle) : Type 0 where
+  pub in_range : AreInRange params particles
   pub every : params.every % 2 ^ params.bin_max ≡ 0
   pub ticks : params.ticks % params.every ≡ 0
   pub bins : params.bin_min ≤ params.bin_max

@@ -10,8 +10,8 @@ use Rattle.sph_deck.specs.Document.{value_at}
 use Rattle.sph_deck.specs.Keys.{number_of, range_of}
 
 -- the place of a key in a row
-abbrev pub place_of : Key → ℕ → Place
-place_of key row = record { key = number_of key; row = row }
+abbrev pub place_at : Key → ℕ → Place
+place_at key row = record { key = number_of key; row = row }
 
 -- the integer is in the range
 abbrev pub is_within : ℤ × ℤ → ℤ → Bool
@@ -19,17 +19,17 @@ is_within range z = int_le range.0 z && int_le z range.1
 
 -- an integer at a key of this range, if it takes one
 abbrev pub judged_integer : Key → ℕ → Option (ℤ × ℤ) → ℤ → Result ℤ DeckFault
-judged_integer key row None z = Err (WrongKind (place_of key row))
-judged_integer key row (Some range) z = if is_within range z then Ok z else Err (OutOfRange (place_of key row) z)
+judged_integer key row None z = Err (WrongKind (place_at key row))
+judged_integer key row (Some range) z = if is_within range z then Ok z else Err (OutOfRange (place_at key row) z)
 
 -- a value that may be an integer
 abbrev pub judged_number : Key → ℕ → Option ℤ → Result ℤ DeckFault
-judged_number key row None = Err (WrongKind (place_of key row))
+judged_number key row None = Err (WrongKind (place_at key row))
 judged_number key row (Some z) = judged_integer key row (range_of key) z
 
 -- what stands at a key that wants an integer
 unfoldable pub judged : Key → ℕ → Option Data → Result ℤ DeckFault
-judged key row None = Err (Missing (place_of key row))
+judged key row None = Err (Missing (place_at key row))
 judged key row (Some value) = judged_number key row (as_integer value)
 
 -- the integer is in the range of its key

@@ -1,5 +1,5 @@
 -- The table of a deck's keys: name, number and range. A key of number 1 to 11 stands at the top, any other in a particle.
-use Rattle.std.specs.Prelude.{ℕ, zero, suc, ℤ, pos, neg_ℤ, List, codes, Option, Some, None, Bool, true, false, ◌≡◌}
+use Rattle.std.specs.Prelude.{ℕ, zero, suc, ℤ, pos, neg_ℤ, List, [], ◌∷◌, codes, slice_get, Option, Some, None, Bool, true, false, ◌≡◌}
 use Rattle.sph_deck.specs.declared.key.Key.{Key}
 use Rattle.sph_deck.specs.declared.key.Key.TheVariants.{Ticks, Every, BinMin, BinMax, Sound, Shift, Accuracy, Leaf, Pairs, Slack, Particle, Mass, H, X, Y, Z, Px, Py, Pz}
 
@@ -44,6 +44,17 @@ number_of Z = 16
 number_of Px = 17
 number_of Py = 18
 number_of Pz = 19
+
+-- the keys in the order of their numbers, from 1
+abbrev pub keys : List Key
+keys =
+    Ticks ∷ Every ∷ BinMin ∷ BinMax ∷ Sound ∷ Shift ∷ Accuracy ∷ Leaf ∷ Pairs ∷ Slack ∷ Particle
+    ∷ Mass ∷ H ∷ X ∷ Y ∷ Z ∷ Px ∷ Py ∷ Pz ∷ []
+
+-- the key of a number, if there is one
+abbrev pub key_numbered : ℕ → Option Key
+key_numbered zero = None
+key_numbered (suc i) = slice_get keys i
 
 -- the least and the greatest integer; none at `particle`, which wants an array of tables
 abbrev pub range_of : Key → Option (ℤ × ℤ)

@@ -18,7 +18,8 @@ abbrev pub IsCovered : Option DeckFault → DeckFault → Type 0
 IsCovered None fault = ⊥
 IsCovered (Some kept) fault = IsNoLater kept fault
 
--- the faults of which P holds were met, and the first of them and the one kept before is kept
+-- A walk over all faults of which P holds: it had kept the one fault, or none, and now keeps the other. What it keeps now
+-- comes no later than what it had kept and than each fault of which P holds, and is one of these.
 pub record Meets (P : DeckFault → Type 0) (before after : Option DeckFault) : Type 0 where
   pub kept : (fault : DeckFault) → before ≡ Some fault → IsCovered after fault
   pub met : (fault : DeckFault) → P fault → IsCovered after fault

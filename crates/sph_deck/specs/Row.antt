@@ -5,14 +5,13 @@ use Rattle.toml.specs.Data.{Members, get_member}
 use Rattle.sph_deck.specs.declared.fault.DeckFault.{DeckFault}
 use Rattle.sph_deck.specs.declared.fault.DeckFault.TheVariants.{Unknown}
 use Rattle.sph_deck.specs.declared.key.Key.{Key}
-use Rattle.sph_deck.specs.declared.row.TheConstants.{KEYS}
 use Rattle.sph_deck.specs.Document.{value_at}
 use Rattle.sph_deck.specs.Judged.{judged, IsReadAt}
-use Rattle.sph_deck.specs.Keys.{name_of, range_of, is_of_top}
+use Rattle.sph_deck.specs.Keys.{keys, name_of, range_of, is_of_top}
 
 -- the key of a name
 unfoldable pub key_of : List ℕ → Option Key
-key_of name = find (λ key. bytes_eq (name_of key) name) KEYS
+key_of name = find (λ key. bytes_eq (name_of key) name) keys
 
 -- the name is that of a key of the top, or of a particle
 pub record IsKnownName (of_top : Bool) (name : List ℕ) : Type 0 where

@@ -13,7 +13,7 @@ use Rattle.sph_deck.specs.declared.refusal.DeckRefusal.{DeckRefusal}
 use Rattle.sph_deck.specs.declared.refusal.DeckRefusal.TheVariants.{Fault, Memory}
 use Rattle.sph_deck.specs.Document.{value_at, elements, list_of_items, params_of, particle_of, particles_of}
 use Rattle.sph_deck.specs.Faults.{most_particles, StandsInTable}
-use Rattle.sph_deck.specs.Judged.{place_of}
+use Rattle.sph_deck.specs.Judged.{place_at}
 use Rattle.sph_deck.specs.Row.{AreNumbersRead, IsRowFault}
 
 -- each number of the top was read, and these are they
@@ -28,11 +28,11 @@ pub record IsParticleRead (table : Members) (particle : OneParticle) : Type 0 wh
 
 -- what stands at the key of the array of particles
 abbrev pub judged_items : Option Items → Result Items DeckFault
-judged_items None = Err (WrongKind (place_of Particle 0))
+judged_items None = Err (WrongKind (place_at Particle 0))
 judged_items (Some items) = Ok items
 
 abbrev pub judged_array : Option Data → Result Items DeckFault
-judged_array None = Err (Missing (place_of Particle 0))
+judged_array None = Err (Missing (place_at Particle 0))
 judged_array (Some value) = judged_items (as_array value)
 
 -- the fault of an array of this many elements
@@ -51,7 +51,7 @@ IsElementRead element particle = IsSomeAnd (as_table element) (λ table. IsParti
 
 -- the fault of an element
 abbrev pub IsElementFault : ℕ → Data → DeckFault → Type 0
-IsElementFault row element fault = MatchOption (as_table element) (fault ≡ WrongKind (place_of Particle row)) (λ table. IsRowFault false row table fault)
+IsElementFault row element fault = MatchOption (as_table element) (fault ≡ WrongKind (place_at Particle row)) (λ table. IsRowFault false row table fault)
 
 -- the elements of the array, and their particles
 abbrev pub AreElementsRead : List Value → List OneParticle → Type 0
@@ -64,7 +64,7 @@ pub record HasElementFault (elements : List Data) (fault : DeckFault) : Type 0 w
   pub found : slice_get elements index ≡ Some element
   pub wrong : IsElementFault (suc index) element fault
 
--- the first fault is one of these; memory may always run out
+-- the refusal is a fault of which P holds, or memory ran out, which says nothing of the text
 abbrev pub IsRefusal : (DeckFault → Type 0) → DeckRefusal → Type 0
 IsRefusal P (Fault fault) = P fault
 IsRefusal P Memory = ⊤

@@ -2,7 +2,7 @@
 ghost use Rattle.std.specs.Prelude.{◌≡◌, ◌<◌, ◌≤◌, ◌^◌, ℕ, length, slice_index_or, map, unsigned_abs, All, IfOk, vec_len};
 ghost use Rattle.sph_num.specs.Bound.{bound_of, bounds_of, greatest_of, greatest_momentum, least_density, greatest_ghost, greatest_factor, greatest_force};
 ghost use Rattle.sph_num.specs.Ranges.{AreParamsInRange, IsBody, IsDeckMomentum};
-ghost use Rattle.sph_num.proofs.Sums.{AreBoundsInRange};
+ghost use Rattle.sph_num.specs.Ranges.{AreBoundsInRange};
 ghost use Rattle.sph_num.specs.declared.particle.Particle.{Particle};
 
 use sph_num::{Bounds, KERNEL_CONSTANT, Params, Particle};

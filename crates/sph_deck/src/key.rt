@@ -1,6 +1,6 @@
 //! The keys of a deck.
 ghost use Rattle.std.specs.Prelude.{◌≡◌, Some};
-ghost use Rattle.sph_deck.specs.Keys.{name_of, number_of, range_of};
+ghost use Rattle.sph_deck.specs.Keys.{key_numbered, name_of, number_of, range_of};
 
 /// A key of the top, down to `Particle`, or of one particle. All but `Particle` want an integer.
 #[derive(Clone, Copy, Debug, PartialEq, Eq)]
@@ -25,6 +25,29 @@ pub enum Key {
     Py,
     Pz,
 }
+
+/// Every key, in the order of their numbers from 1.
+pub(crate) const KEYS: [Key; 19] = [
+    Key::Ticks,
+    Key::Every,
+    Key::BinMin,
+    Key::BinMax,
+    Key::Sound,
+    Key::Shift,
+    Key::Accuracy,
+    Key::Leaf,
+    Key::Pairs,
+    Key::Slack,
+    Key::Particle,
+    Key::Mass,
+    Key::H,
+    Key::X,
+    Key::Y,
+    Key::Z,
+    Key::Px,
+    Key::Py,
+    Key::Pz,
+];
 
 impl Key {
     /// The key's name in a deck.
@@ -61,6 +84,14 @@ impl Key {
         self as u32 + 1
     }
 
+    /// The key of a number, if there is one.
+    pub fn numbered(number: u32) -> Option<Key>
+        ensures { result ≡ key_numbered number }
+    {
+        let index = number.checked_sub(1)?;
+        KEYS.get(index as usize).copied()
+    }
+
     /// The least and the greatest integer that the key takes; none for the array of particles.
     pub fn range(self) -> Option<(i64, i64)>
         ensures { result ≡ range_of self }
@@ -83,5 +114,19 @@ impl Key {
             Key::Px | Key::Py | Key::Pz => MOMENTUM,
         };
         Some(range)
+    }
+}
+
+#[cfg(test)]
+mod tests {
+    use super::*;
+
+    #[test]
+    fn numbers_count_from_one(rt: HostRuntime) {
+        assert!(rt; Key::numbered(0).is_none());
+        assert!(rt; Key::numbered(1) == Some(Key::Ticks));
+        assert!(rt; Key::numbered(12) == Some(Key::Mass));
+        assert!(rt; Key::numbered(19) == Some(Key::Pz));
+        assert!(rt; Key::numbered(20).is_none());
     }
 }

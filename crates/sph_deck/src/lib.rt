@@ -4,7 +4,7 @@
 mod bound;
 mod deck;
 mod fault;
-mod faults;
+mod first;
 mod key;
 mod particle;
 mod read;

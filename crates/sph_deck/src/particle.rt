@@ -7,7 +7,7 @@ ghost use Rattle.sph_deck.specs.Row.{IsRowFault};
 ghost use Rattle.sph_deck.specs.Rows.{AreElementsRead, HasElementFault, IsElementFault, IsElementRead, IsParticleRead};
 
 use crate::fault::{DeckFault, Place};
-use crate::faults::Faults;
+use crate::first::Faults;
 use crate::key::Key;
 use crate::row::{component, note_names, whole};
 use sph_num::Particle;

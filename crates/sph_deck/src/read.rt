@@ -1,17 +1,20 @@
 //! Reading a deck.
-ghost use Rattle.std.specs.Prelude.{◌≡◌, ◌≤◌, length, MatchResult};
+ghost use Rattle.std.specs.Prelude.{◌≡◌, ◌≤◌, ◌⊎◌, length, IsOk, MatchResult};
 ghost use Rattle.toml.specs.View.{table_view};
-ghost use Rattle.sph_deck.specs.Agreement.{AreInRange, Disagree};
+ghost use Rattle.sph_deck.specs.Accepted.{AreInRange};
+ghost use Rattle.sph_deck.specs.Agreement.{Disagree};
 ghost use Rattle.sph_deck.specs.Document.{elements};
-ghost use Rattle.sph_deck.specs.Faults.{longest_text, StandsInTable};
-ghost use Rattle.sph_deck.specs.FirstFault.{AnswersDeck};
+ghost use Rattle.sph_deck.specs.declared.fault.DeckFault.{DeckFault};
+ghost use Rattle.sph_deck.specs.declared.refusal.DeckRefusal.TheVariants.{Fault, Memory};
+ghost use Rattle.sph_deck.specs.Faults.{longest_text, IsAccepted, StandsInTable};
+ghost use Rattle.sph_deck.specs.FirstFault.{AnswersDeck, IsFirstFault};
 ghost use Rattle.sph_deck.specs.Meets.{IsFirst};
 ghost use Rattle.sph_deck.specs.Rows.{IsRefusal, IsTableRead};
 
 use crate::bound::bound_of;
 use crate::deck::Deck;
 use crate::fault::DeckFault;
-use crate::faults::Faults;
+use crate::first::Faults;
 use crate::particle::read_particles;
 use crate::refusal::DeckRefusal;
 use crate::top::{particle_elements, read_params};
@@ -75,21 +78,31 @@ fn accept(params: Params, particles: Vec<Particle>) -> Result<Deck, DeckFault>
     })
 }
 
-/// Reads an accepted deck, or says the first fault of the text.
-pub fn read_deck(alloc: Global, bytes: &[u8]) -> Result<Deck, DeckRefusal>
+/// The deck of a text that isn't too long, or its first fault.
+fn read_document(alloc: Global, bytes: &[u8]) -> Result<Deck, DeckRefusal>
+    requires { length bytes.now ≤ longest_text }
     ensures { AnswersDeck bytes.now result }
 {
-    if bytes.len() > LONGEST_TEXT {
-        return Err(DeckRefusal::Fault(DeckFault::TooLong));
-    }
     let top = match toml::table_from_slice(alloc, bytes) {
         Ok(top) => top,
         Err(error) if error.is_memory() => return Err(DeckRefusal::Memory),
         Err(_) => return Err(DeckRefusal::Fault(DeckFault::NotToml)),
     };
     let (params, particles) = read_table(alloc, &top)?;
-    let deck = accept(params, particles)?;
-    Ok(deck)
+    Ok(accept(params, particles)?)
+}
+
+/// Reads an accepted deck, or says the first fault of the text.
+#[tactic(auto, using(crate::proofs::FirstFaults::first_answered, crate::proofs::FirstFaults::accepted_answered))]
+pub fn read_deck(alloc: Global, bytes: &[u8]) -> Result<Deck, DeckRefusal>
+    ensures answers { AnswersDeck bytes.now result }
+    ensures first { (fault : DeckFault) → IsFirstFault bytes.now fault → (result ≡ Err (Fault fault)) ⊎ (result ≡ Err Memory) }
+    ensures accepted { IsAccepted bytes.now → IsOk result ⊎ (result ≡ Err Memory) }
+{
+    if bytes.len() > LONGEST_TEXT {
+        return Err(DeckRefusal::Fault(DeckFault::TooLong));
+    }
+    read_document(alloc, bytes)
 }
 
 #[cfg(test)]
@@ -103,18 +116,24 @@ mod tests {
     // The first five numbers of the top: ticks, every, bin_min, bin_max and sound.
     const NUMBERS: [u32; 5] = [0, 1, 0, 0, 65_536];
 
-    const ROW: &str = "h = 2048\nx = 1\ny = 2\nz = 1048575\npy = 6\npz = 7\n";
+    // The rest of a particle at rest in the corner of the box.
+    const AT_REST: &str = "h = 131072\nx = 0\ny = 0\nz = 0\npy = 0\npz = 0\n";
+
+    const AT_ODDS: &str = "[[particle]]\nmass = 1\nh = 131072\n[[particle]]\nweight = 1\n";
+
+    const BOTH_LACK: &str =
+        "[[particle]]\nmass = 1\nh = 131072\nx = 0\ny = 0\npx = 0\npy = 0\n[[particle]]\nh = 131072\n";
+
+    // A second particle, of the greatest mass and the least length.
+    const HEAVY: &str =
+        "[[particle]]\nmass = 65536\nh = 1024\nx = 524288\ny = 0\nz = 0\npx = 0\npy = 0\npz = 0\n";
+
+    // A particle whose numbers all differ, in a table of its own and inline.
+    const VARIED: &str =
+        "[[particle]]\nmass = 3\nh = 2048\nx = 1\ny = 2\nz = 1048575\npx = -5\npy = 6\npz = 7\n";
 
     const INLINE: &str =
         "particle = [{ pz = 7, py = 6, px = -5, z = 1048575, y = 2, x = 1, h = 2048, mass = 3 }]\n";
-
-    const AT_ODDS: &str = "[[particle]]\nmass = 3\nh = 2048\n[[particle]]\nweight = 3\n";
-
-    const BOTH_LACK: &str =
-        "[[particle]]\nmass = 3\nh = 2048\nx = 1\ny = 2\npx = 5\npy = 6\n[[particle]]\nh = 2048\n";
-
-    const FAR_APART: &str =
-        "[[particle]]\nmass = 1\nh = 131072\nx = 0\ny = 0\nz = 0\npx = 0\npy = 0\npz = 0\n[[particle]]\nmass = 65536\nh = 1024\nx = 524288\ny = 0\nz = 0\npx = 0\npy = 0\npz = 0\n";
 
     // The lines of the top, and then this text.
     fn top(alloc: Global, numbers: [u32; 5], rest: &str) -> Result<String, AllocError> {
@@ -125,10 +144,17 @@ mod tests {
         )
     }
 
-    // A deck of one particle.
+    // A deck of one particle at rest, with this mass and px.
     fn deck(alloc: Global, numbers: [u32; 5], mass: &str, px: &str) -> Result<String, AllocError> {
-        let row = format!(in alloc; "[[particle]]\nmass = {mass}\npx = {px}\n{ROW}")?;
+        let row = format!(in alloc; "[[particle]]\nmass = {mass}\npx = {px}\n{AT_REST}")?;
         top(alloc, numbers, row.as_str())
+    }
+
+    // A deck of the greatest differences of mass and of length, at this speed of sound.
+    fn far_apart(alloc: Global, sound: u32) -> Result<String, AllocError> {
+        let mut text = deck(alloc, [0, 8, 0, 3, sound], "1", "0")?;
+        text.push_str(HEAVY)?;
+        Ok(text)
     }
 
     fn text(alloc: Global, text: &str) -> Result<String, AllocError> {
@@ -152,25 +178,26 @@ mod tests {
             (top(alloc, NUMBERS, BOTH_LACK)?, Missing(at(16, 1))),
             (top(alloc, NUMBERS, "particle = []")?, NoParticles),
             (top(alloc, NUMBERS, "particle = [1]")?, WrongKind(at(11, 1))),
-            (deck(alloc, NUMBERS, "0", "-5")?, OutOfRange(at(12, 1), 0)),
-            (deck(alloc, NUMBERS, "1.0", "-5")?, WrongKind(at(12, 1))),
+            (top(alloc, NUMBERS, "particle = 1")?, WrongKind(at(11, 0))),
+            (deck(alloc, NUMBERS, "0", "0")?, OutOfRange(at(12, 1), 0)),
+            (deck(alloc, NUMBERS, "1.0", "0")?, WrongKind(at(12, 1))),
             (
-                deck(alloc, NUMBERS, "3", least)?,
+                deck(alloc, NUMBERS, "1", least)?,
                 OutOfRange(at(17, 1), i64::MIN),
             ),
             (
-                deck(alloc, [0, 6, 0, 2, 1], "3", "-5")?,
+                deck(alloc, [0, 6, 0, 2, 65_536], "1", "0")?,
                 BadEvery { every: 6, unit: 4 },
             ),
             (
-                deck(alloc, [6, 4, 0, 2, 1], "3", "-5")?,
+                deck(alloc, [6, 4, 0, 2, 65_536], "1", "0")?,
                 BadTicks { ticks: 6, every: 4 },
             ),
             (
-                deck(alloc, [0, 1, 1, 0, 1], "3", "-5")?,
+                deck(alloc, [0, 1, 1, 0, 65_536], "1", "0")?,
                 BadBins { min: 1, max: 0 },
             ),
-            (top(alloc, [0, 8, 0, 3, 42_894], FAR_APART)?, Sums(bound)),
+            (far_apart(alloc, 42_894)?, Sums(bound)),
         ];
         for (text, fault) in cases {
             let refusal = read_deck(alloc, text.as_bytes()).err();
@@ -189,7 +216,7 @@ mod tests {
 
     #[test]
     fn reads_the_numbers(rt: HostRuntime) -> Result<(), Fail> {
-        let text = deck(rt.alloc(), NUMBERS, "3", "-5")?;
+        let text = top(rt.alloc(), NUMBERS, VARIED)?;
         let deck = read_deck(rt.alloc(), text.as_bytes())
             .ok()
             .ok_or("refused")?;
@@ -214,7 +241,7 @@ mod tests {
 
     #[test]
     fn reads_up_to_the_bound(rt: HostRuntime) -> Result<(), Fail> {
-        let text = top(rt.alloc(), [0, 8, 0, 3, 42_893], FAR_APART)?;
+        let text = far_apart(rt.alloc(), 42_893)?;
         let deck = read_deck(rt.alloc(), text.as_bytes())
             .ok()
             .ok_or("refused")?;

@@ -4,37 +4,14 @@ ghost use Rattle.std.specs.Str.{bytes_eq};
 ghost use Rattle.toml.specs.View.{view, table_view};
 ghost use Rattle.sph_deck.specs.Document.{value_at};
 ghost use Rattle.sph_deck.specs.Judged.{judged, is_whole, IsReadAt};
-ghost use Rattle.sph_deck.specs.Keys.{name_of, is_of_top};
+ghost use Rattle.sph_deck.specs.Keys.{keys, name_of, is_of_top};
 ghost use Rattle.sph_deck.specs.Meets.{Meets};
 ghost use Rattle.sph_deck.specs.Row.{HasUnknownName, AreNamesKnown, IsKeyFault, IsKnownName, IsNameFault, IsUnknownName};
 
 use crate::fault::{DeckFault, Place};
-use crate::faults::Faults;
-use crate::key::Key;
+use crate::first::Faults;
+use crate::key::{KEYS, Key};
 use toml::{Table, Value};
-
-// Every key.
-const KEYS: [Key; 19] = [
-    Key::Ticks,
-    Key::Every,
-    Key::BinMin,
-    Key::BinMax,
-    Key::Sound,
-    Key::Shift,
-    Key::Accuracy,
-    Key::Leaf,
-    Key::Pairs,
-    Key::Slack,
-    Key::Particle,
-    Key::Mass,
-    Key::H,
-    Key::X,
-    Key::Y,
-    Key::Z,
-    Key::Px,
-    Key::Py,
-    Key::Pz,
-];
 
 /// The value at a key.
 pub(crate) fn value_at<'a>(table: &'a Table, key: Key) -> Option<&'a Value>
@@ -94,7 +71,7 @@ pub(crate) fn component(table: &Table, key: Key, row: u32, faults: &mut Faults) 
 
 /// The key of a name.
 fn key_named(name: &str) -> Option<Key>
-    ensures { result ≡ find (λ key. bytes_eq (name_of key) name.now) KEYS }
+    ensures { result ≡ find (λ key. bytes_eq (name_of key) name.now) keys }
 {
     KEYS.iter().copied().find(|key| key.name() == name)
 }

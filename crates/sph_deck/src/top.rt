@@ -8,7 +8,7 @@ ghost use Rattle.sph_deck.specs.Row.{IsRowFault};
 ghost use Rattle.sph_deck.specs.Rows.{judged_array, AreParamsRead, IsArrayFault, IsCountFault};
 
 use crate::fault::{DeckFault, Place};
-use crate::faults::Faults;
+use crate::first::Faults;
 use crate::key::Key;
 use crate::row::{note_names, value_at, whole};
 use sph_num::Params;

@@ -7,8 +7,8 @@ use Rattle.std.proofs.lemmas.List.Elements.{All-nil, All-head, All-tail, All-map
 use Rattle.sph_num.specs.declared.particle.Params.{Params}
 use Rattle.sph_num.specs.declared.particle.Particle.{Particle}
 use Rattle.sph_num.specs.Bound.{least_of, greatest_of, bounds_of, greatest_momentum, bound_of}
-use Rattle.sph_num.specs.Ranges.{IsBody, IsDeckMomentum, AreParamsInRange}
-use Rattle.sph_num.proofs.Sums.{AreBoundsInRange, momentum_limit-lt}
+use Rattle.sph_num.specs.Ranges.{IsBody, IsDeckMomentum, AreParamsInRange, AreBoundsInRange}
+use Rattle.sph_num.proofs.Sums.{momentum_limit-lt}
 
 -- the least of a number and a list, and the greatest
 fold_min-ge : (n a : ℕ) (xs : List ℕ) → n ≤ a → All (λ x. n ≤ x) xs → n ≤ fold min a xs

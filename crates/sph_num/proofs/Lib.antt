@@ -1,6 +1,9 @@
 pub mod Spline
+pub mod Slopes
 pub mod Roots
 pub mod Divisions
 pub mod Parts
 pub mod Sums
 pub mod Extremes
+pub mod Forces
+pub mod Drifts

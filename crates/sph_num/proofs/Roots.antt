@@ -1,6 +1,7 @@
 -- The greatest number that passes a test, and what it says of a distance in 1024ths of a length.
-use Rattle.std.proofs.Common.{◌≡◌, ℕ, zero, suc, ◌+◌, ◌*◌, ◌^◌, ◌<◌, ◌≤◌, Bool, true, false, leb, cond, arith, rules, tests}
+use Rattle.std.proofs.Common.{◌≡◌, ℕ, zero, suc, ◌+◌, ◌*◌, ◌^◌, ◌<◌, ◌≤◌, Bool, true, false, leb, cond, inl, inr, arith, rules, tests}
 use Rattle.std.proofs.lemmas.Nat.{mul-le}
+use Rattle.std.proofs.lemmas.Bool.{cases_lt}
 use Rattle.std.proofs.lemmas.Bool.Decides.{nat_tests}
 use Rattle.sph_num.specs.Kernel.{greatest_passing, root_of}
 
@@ -72,3 +73,13 @@ IsRoot-root_of r2 h low =
       within = search (rules, tests);
       above = lt-from_fails ((root + 1) * (root + 1) * (h * h)) n next_fails;
     }
+
+-- the root of a distance within the length is below 1024
+pub root_of-lt : (r2 h : ℕ) → 1 ≤ h → r2 < h * h → root_of r2 h < 1024
+root_of-lt r2 h low reach =
+    let root = root_of r2 h in
+    let is : IsRoot r2 h root = IsRoot-root_of r2 h low in
+    elim (cases_lt root 1024) [
+      | inl below ↦ below
+      | inr high ↦ absurd (omega (arith, is.within, square-le 1024 root (h * h) high))
+    ]

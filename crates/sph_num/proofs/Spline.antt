@@ -15,7 +15,7 @@ inner_not_negative s h =
     rw e at (inner_fits s (512 - s))
 
 -- a third power against that of a greater number, and against its square
-cube-le : (s n : ℕ) → s ≤ n → s * s * s ≤ n * n * n
+pub cube-le : (s n : ℕ) → s ≤ n → s * s * s ≤ n * n * n
 cube-le s n h = mul-le (s * s) s (n * n) n (mul-le s s n n h h) h
 
 cube-le-square : (s n : ℕ) → s ≤ n → s * s * s ≤ n * (s * s)

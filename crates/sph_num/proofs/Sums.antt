@@ -15,11 +15,12 @@ use Rattle.sph_num.specs.declared.particle.Particle.{Particle}
 use Rattle.sph_num.specs.Bound.{least_density, greatest_ghost, greatest_factor, greatest_force, momentum_limit}
 use Rattle.sph_num.specs.Density.{density_part, density_within, density_of}
 use Rattle.sph_num.specs.Kernel.{kernel_w, kernel_constant, root_of}
-use Rattle.sph_num.specs.Ranges.{IsMass, IsLength, IsBody, AreParamsInRange}
+use Rattle.sph_num.specs.Ranges.{IsMass, IsLength, IsBody, AreParamsInRange, AreBoundsInRange}
 use Rattle.sph_num.specs.Space.{minimal, axis2, dist2}
 use Rattle.sph_num.proofs.Divisions.{div-lt}
 use Rattle.sph_num.proofs.Parts.{density_part-lt, volume_low, volume_high}
 use Rattle.sph_num.proofs.Roots.{root_of-is}
+use Rattle.sph_num.proofs.Slopes.{factor_numerator-lt, factor_quotient-lt}
 use Rattle.sph_num.proofs.Spline.{kernel_w_inner}
 
 -- what a mass adds to the density at any distance
@@ -40,7 +41,7 @@ density_of-lt place list i bodies few body =
 root_of-zero : (h : ℕ) → 1 ≤ h → root_of 0 h ≡ 0
 root_of-zero h low = root_of-is 0 h 0 low (record { within = omega arith; above = omega (arith, mul-le 1 1 h h low low) })
 
-kernel_w-root_of-zero : (h : ℕ) → 1 ≤ h → kernel_w (root_of 0 h) ≡ 2 ^ 30
+pub kernel_w-root_of-zero : (h : ℕ) → 1 ≤ h → kernel_w (root_of 0 h) ≡ 2 ^ 30
 kernel_w-root_of-zero h low = ap kernel_w (root_of-zero h low) ∙ kernel_w_inner 0 (omega arith)
 
 -- what a mass adds at its own place
@@ -61,7 +62,7 @@ density_alone mass h is_mass is_length =
     grind (arith, nat_tests)
 
 -- the minimal image of a number minus itself is 0
-minimal_self : (x : ℕ) → minimal x x ≡ pos 0
+pub minimal_self : (x : ℕ) → minimal x x ≡ pos 0
 minimal_self x =
     let none : pos x -ℤ pos x ≡ pos 0 = omega (arith, ints) in
     ap (λ z. int_rem_euclid (z +ℤ pos (2 ^ 19)) (pos (2 ^ 20)) -ℤ pos (2 ^ 19)) none
@@ -104,18 +105,9 @@ least_density_below mass h is_mass is_length =
 ghost_below : (sound density : ℕ) → sound ≤ 65536 → 20 ≤ density → (sound * 2 ^ 30) / density < 2 ^ 42
 ghost_below sound density high low = div-lt (sound * 2 ^ 30) density 20 (2 ^ 42) (omega arith) low (omega arith)
 
--- the factor of a force
-factor_numerator-lt : (mass ghost : ℕ) → IsMass mass → ghost < 2 ^ 42 → mass * mass * ghost * kernel_constant * 12288 * 2 ^ 20 < 2 ^ 125
-factor_numerator-lt mass ghost is below =
-    omega (arith, mul3-le mass mass ghost 65536 65536 (2 ^ 42) is.high is.high (omega arith))
-
-fifth_power_low : (h : ℕ) → IsLength h → 2 ^ 50 ≤ h * h * h * h * h
-fifth_power_low h is = mul3-le (2 ^ 30) (2 ^ 10) (2 ^ 10) (h * h * h) h h (volume_low h is) is.low is.low
-
-factor_below : (mass ghost h : ℕ) → IsMass mass → ghost < 2 ^ 42 → IsLength h → (mass * mass * ghost * kernel_constant * 12288 * 2 ^ 20) / (h * h * h * h * h) < 2 ^ 75
-factor_below mass ghost h is_mass below is_length =
-    let numerator = factor_numerator-lt mass ghost is_mass below in
-    div-lt (mass * mass * ghost * kernel_constant * 12288 * 2 ^ 20) (h * h * h * h * h) (2 ^ 50) (2 ^ 75) (omega arith) (fifth_power_low h is_length) (omega arith)
+-- the product of two masses
+masses_high : (mass : ℕ) → IsMass mass → mass * mass ≤ 2 ^ 32
+masses_high mass is = mul-le mass mass (2 ^ 16) (2 ^ 16) is.high is.high
 
 -- a force of all particles
 force_below : (count factor h : ℕ) → count ≤ 32768 → factor < 2 ^ 75 → IsLength h → 2 * count * factor * h < 2 ^ 108
@@ -128,15 +120,6 @@ momentum_below force ticks bin pmax weak short fine small =
     let step : 2 ^ bin ≤ 2 ^ 10 = pow-le-pow_right (omega arith) fine in
     omega (arith, mul-le force (2 * ticks + 2 ^ bin) (2 ^ 108) (2 ^ 17 + 2 ^ 10) (omega arith) (omega arith))
 
--- the ranges of a deck's bounds
-pub record AreBoundsInRange (b : Bounds) : Type 0 where
-  pub count_low : 1 ≤ b.count
-  pub count_high : b.count ≤ 32768
-  pub least_mass : IsMass b.mass.0
-  pub greatest_mass : IsMass b.mass.1
-  pub least_h : IsLength b.h.0
-  pub greatest_h : IsLength b.h.1
-
 -- the limits of specs/Bound, at bounds in range
 pub least_density-ge : (b : Bounds) → AreBoundsInRange b → 20 ≤ least_density b
 least_density-ge b are = least_density_at_least b.mass.0 b.h.1 are.least_mass are.greatest_h
@@ -148,10 +131,12 @@ pub greatest_ghost-lt : (sound : ℕ) (b : Bounds) → sound ≤ 65536 → AreBo
 greatest_ghost-lt sound b high are = ghost_below sound (least_density b) high (least_density-ge b are)
 
 pub greatest_factor_numerator-lt : (sound : ℕ) (b : Bounds) → sound ≤ 65536 → AreBoundsInRange b → b.mass.1 * b.mass.1 * greatest_ghost sound b * kernel_constant * 12288 * 2 ^ 20 < 2 ^ 125
-greatest_factor_numerator-lt sound b high are = factor_numerator-lt b.mass.1 (greatest_ghost sound b) are.greatest_mass (greatest_ghost-lt sound b high are)
+greatest_factor_numerator-lt sound b high are =
+    factor_numerator-lt (b.mass.1 * b.mass.1) (greatest_ghost sound b) 12288 (masses_high b.mass.1 are.greatest_mass) (greatest_ghost-lt sound b high are) (omega arith)
 
 pub greatest_factor-lt : (sound : ℕ) (b : Bounds) → sound ≤ 65536 → AreBoundsInRange b → greatest_factor sound b < 2 ^ 75
-greatest_factor-lt sound b high are = factor_below b.mass.1 (greatest_ghost sound b) b.h.0 are.greatest_mass (greatest_ghost-lt sound b high are) are.least_h
+greatest_factor-lt sound b high are =
+    factor_quotient-lt (b.mass.1 * b.mass.1) (greatest_ghost sound b) 12288 b.h.0 (masses_high b.mass.1 are.greatest_mass) (greatest_ghost-lt sound b high are) (omega arith) are.least_h
 
 pub greatest_force-lt : (sound : ℕ) (b : Bounds) → sound ≤ 65536 → AreBoundsInRange b → greatest_force sound b < 2 ^ 108
 greatest_force-lt sound b high are = force_below b.count (greatest_factor sound b) b.h.1 are.count_high (greatest_factor-lt sound b high are) are.greatest_h

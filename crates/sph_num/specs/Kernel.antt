@@ -1,5 +1,5 @@
 -- The cubic spline kernel in whole numbers: the distance in 1024ths of the smoothing length, the kernel at it.
-use Rattle.std.specs.Prelude.{◌≡◌, ℕ, zero, suc, ◌+◌, ◌-◌, ◌*◌, ◌^◌, ◌≤◌, Bool, if◌then◌else◌, nat_le, List, length, slice_index}
+use Rattle.std.specs.Prelude.{◌≡◌, ℕ, zero, suc, ◌+◌, ◌-◌, ◌*◌, ◌/◌, ◌^◌, ◌≤◌, Bool, if◌then◌else◌, nat_le, List, length, slice_index}
 
 -- the greatest number from 1 to n that passes the test, or 0 where none does
 abbrev pub greatest_passing : (ℕ → Bool) → ℕ → ℕ
@@ -15,6 +15,12 @@ unfoldable pub kernel_w : ℕ → ℕ
 kernel_w s =
     if nat_le s 512 then (2 ^ 30 + 6 * (s * s * s)) - 6 * 2 ^ 10 * (s * s)
     else 2 * ((1024 - s) * (1024 - s) * (1024 - s))
+
+-- the kernel's slope over its distance, with the sign turned, at a scale of 12288 at no distance: it ends at 1024
+unfoldable pub kernel_u : ℕ → ℕ
+kernel_u s =
+    if nat_le s 512 then 12288 - 18 * s
+    else (6 * ((1024 - s) * (1024 - s))) / s
 
 -- 8 over pi at a scale of 2^16, which makes the kernel's integral one, but for the rounding
 abbrev pub kernel_constant : ℕ

@@ -1,5 +1,6 @@
 -- The ranges of a deck's numbers, which hold through a whole run but for the momentum's.
 use Rattle.std.specs.Prelude.{ℕ, ◌^◌, ◌<◌, ◌≤◌, All, unsigned_abs}
+use Rattle.sph_num.specs.declared.particle.Bounds.{Bounds}
 use Rattle.sph_num.specs.declared.particle.Params.{Params}
 use Rattle.sph_num.specs.declared.particle.Particle.{Particle}
 use Rattle.sph_num.specs.Space.{IsPlace}
@@ -38,3 +39,12 @@ pub record IsBody (particle : Particle) : Type 0 where
 -- each component of the momentum is one that a deck may give
 abbrev pub IsDeckMomentum : Particle → Type 0
 IsDeckMomentum particle = All (λ p. unsigned_abs p < 2 ^ 63) particle.p
+
+-- the bounds of a deck's numbers
+pub record AreBoundsInRange (b : Bounds) : Type 0 where
+  pub count_low : 1 ≤ b.count
+  pub count_high : b.count ≤ 32768
+  pub least_mass : IsMass b.mass.0
+  pub greatest_mass : IsMass b.mass.1
+  pub least_h : IsLength b.h.0
+  pub greatest_h : IsLength b.h.1

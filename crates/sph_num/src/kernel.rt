@@ -1,6 +1,6 @@
 //! The cubic spline kernel of Monaghan and Lattanzio (1985), over 1024ths of the smoothing length.
 ghost use Rattle.std.specs.Prelude.{◌≡◌, ◌<◌, ◌≤◌, ◌*◌, ◌^◌};
-ghost use Rattle.sph_num.specs.Kernel.{root_of, kernel_w, IsTableOf};
+ghost use Rattle.sph_num.specs.Kernel.{root_of, kernel_w, kernel_u, IsTableOf};
 ghost use Rattle.sph_num.specs.Ranges.{IsLength};
 
 use std::alloc::{AllocError, Global};
@@ -33,17 +33,17 @@ pub fn root(r2: u64, h: u32) -> u32
 #[derive(Debug, Drop)]
 pub struct Tables {
     w: Vec<u64>,
+    u: Vec<u32>,
     ghost w_is_kernel: { IsTableOf kernel_w w.items },
+    ghost u_is_slope: { IsTableOf kernel_u u.items },
 }
 
 impl Tables {
-    /// The tables, 8 KiB of them; fails only for want of memory.
+    /// The tables, 12 KiB of them; fails only for want of memory.
     pub fn new(alloc: Global) -> Result<Tables, AllocError> {
-        let mut w = Vec::with_capacity(alloc, 1025)?;
-        for s in 0..1025 {
-            w.push(kernel_at(s))?;
-        }
-        Ok(Tables { w })
+        let w = (0..1025).map(kernel_at).collect(alloc)?;
+        let u = (0..1025).map(slope_at).collect(alloc)?;
+        Ok(Tables { w, u })
     }
 
     /// The kernel at a distance of `s` 1024ths of the smoothing length, at a scale of 2^30.
@@ -54,6 +54,17 @@ impl Tables {
         ensures below { result ≤ 2 ^ 30 }
     {
         self.w[s as usize]
+    }
+
+    /// The kernel's slope over its distance, with the sign turned, at a distance of `s` 1024ths of the
+    /// smoothing length, at a scale of 12288.
+    #[inline]
+    pub fn u(&self, s: u32) -> u32
+        requires { s ≤ 1024 }
+        ensures value { result ≡ kernel_u s }
+        ensures below { result ≤ 12288 }
+    {
+        self.u[s as usize]
     }
 }
 
@@ -70,6 +81,19 @@ fn kernel_at(s: u64) -> u64
     }
 }
 
+/// The slope's line and its quotient, which meet at 512.
+fn slope_at(s: u32) -> u32
+    requires { s ≤ 1024 }
+    ensures { result ≡ kernel_u s }
+{
+    if s <= 512 {
+        12_288 - 18 * s
+    } else {
+        let rest = 1024 - s;
+        6 * (rest * rest) / s
+    }
+}
+
 #[cfg(test)]
 mod tests {
     use super::*;
@@ -83,9 +107,10 @@ mod tests {
     #[test]
     fn tabulates_the_kernel(rt: HostRuntime) -> Result<(), AllocError> {
         let tables = Tables::new(rt.alloc())?;
-        for (s, want) in [(0, 1 << 30), (512, 1 << 28), (1024, 0)] {
+        for (s, w, u) in [(0, 1 << 30, 12_288), (512, 1 << 28, 3072), (1024, 0, 0)] {
             assert!(rt; s <= 1024);
-            assert_eq!(rt; tables.w(s), want, "at {s}");
+            assert_eq!(rt; tables.w(s), w, "at {s}");
+            assert_eq!(rt; tables.u(s), u, "at {s}");
         }
         Ok(())
     }

@@ -2,13 +2,17 @@
 #![tactic(auto)]
 
 mod density;
+mod force;
 mod kernel;
 mod list;
+mod motion;
 mod particle;
 mod space;
 
 pub use density::{KERNEL_CONSTANT, density_part};
+pub use force::{force_part, ghost_of};
 pub use kernel::{Tables, root};
 pub use list::ParticleList;
+pub use motion::position;
 pub use particle::{Bounds, Params, Particle};
 pub use space::{dist2, minimal};

@@ -1,22 +1,15 @@
 -- The line on standard error for each fault of a deck.
-use Rattle.std.specs.Prelude.{ℕ, zero, suc, ◌-◌, ◌≤◌, List, [], ◌∷◌, ◌++◌, codes, map, decimal, slice_index_or}
+use Rattle.std.specs.Prelude.{ℕ, zero, suc, ◌≤◌, List, [], ◌∷◌, ◌++◌, codes, decimal, ⊤}
 use Rattle.std.specs.Fmt.{signed_decimal}
+use Rattle.std.specs.Option.{option_map_or}
 use Rattle.sph_deck.specs.declared.fault.DeckFault.{DeckFault}
 use Rattle.sph_deck.specs.declared.fault.DeckFault.TheVariants.{TooLong, NotToml, Unknown, Missing, WrongKind, OutOfRange, NoParticles, TooMany, BadEvery, BadTicks, BadBins, Sums}
 use Rattle.sph_deck.specs.declared.fault.Place.{Place}
-use Rattle.sph_deck.specs.declared.key.Key.{Key}
-use Rattle.sph_deck.specs.declared.key.Key.TheVariants.{Ticks, Every, BinMin, BinMax, Sound, Shift, Accuracy, Leaf, Pairs, Slack, Particle, Mass, H, X, Y, Z, Px, Py, Pz}
-use Rattle.sph_deck.specs.Keys.{name_of}
+use Rattle.sph_deck.specs.Keys.{key_numbered, name_of}
 
--- the keys in the order of their numbers, from 1
-abbrev pub keys : List Key
-keys =
-    Ticks ∷ Every ∷ BinMin ∷ BinMax ∷ Sound ∷ Shift ∷ Accuracy ∷ Leaf ∷ Pairs ∷ Slack ∷ Particle
-    ∷ Mass ∷ H ∷ X ∷ Y ∷ Z ∷ Px ∷ Py ∷ Pz ∷ []
-
--- the name of the key of this number
+-- the name of the key of this number, and no text where there is none
 abbrev pub name_numbered : ℕ → List ℕ
-name_numbered number = slice_index_or (map name_of keys) (number - 1) []
+name_numbered number = option_map_or name_of (key_numbered number) []
 
 -- the row of a place: the top, or a particle by its number
 abbrev pub row_text : ℕ → List ℕ
@@ -56,4 +49,4 @@ abbrev pub NamesKey : DeckFault → Type 0
 NamesKey (Missing place) = IsKeyNumber place
 NamesKey (WrongKind place) = IsKeyNumber place
 NamesKey (OutOfRange place value) = IsKeyNumber place
-NamesKey _ = Unit {0}
+NamesKey _ = ⊤

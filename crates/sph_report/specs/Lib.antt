@@ -1,2 +1,3 @@
 pub use Rattle.sph_deck.specs.Keys
 pub mod DeckLines
+pub mod CheckLine

@@ -73,34 +73,11 @@ impl fmt::Display for Row {
     }
 }
 
-// The keys in the order of their numbers, from 1.
-const KEYS: [Key; 19] = [
-    Key::Ticks,
-    Key::Every,
-    Key::BinMin,
-    Key::BinMax,
-    Key::Sound,
-    Key::Shift,
-    Key::Accuracy,
-    Key::Leaf,
-    Key::Pairs,
-    Key::Slack,
-    Key::Particle,
-    Key::Mass,
-    Key::H,
-    Key::X,
-    Key::Y,
-    Key::Z,
-    Key::Px,
-    Key::Py,
-    Key::Pz,
-];
-
 /// The name of the key of this number, and no text where there is none.
 fn name_numbered(number: u32) -> &'static str
     ensures { result.now ≡ name_numbered number }
 {
-    match KEYS.get(number.saturating_sub(1) as usize) {
+    match Key::numbered(number) {
         Some(key) => key.name(),
         None => "",
     }

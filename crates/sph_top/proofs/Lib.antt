@@ -1,10 +1,6 @@
-pub mod Bytes
-pub mod Decks
-pub mod FirstFaults
 pub mod Jobs
 pub mod NamedKeys
 pub mod Reported
 pub mod Rest
-pub mod Rows
 pub mod Streams
 pub mod Texts

@@ -69,7 +69,7 @@ module _ (said result : Status) (err err' : Seen) (told : IsTold said result err
     done_said e =
         let q = quiet e in
         let r = subst (λ s. Rests s words source source' out out') q.0 rests in
-        record { deck = r.0; read = r.1; output = r.2; quiet = q.1 }
+        record { job = r.0; deck = r.1; read = r.2; output = r.3; quiet = q.1 }
 
     output_said : (IsWithoutOutput said → out' ≡ out) → result ≡ WriteFault → AppendsSome words source source' out out'
     output_said same e = elim told [
@@ -80,7 +80,7 @@ module _ (said result : Status) (err err' : Seen) (told : IsTold said result err
     line_said : result ≡ WriteFault → TellsWriteFault words source source' out out' err err'
     line_said e = elim told [
       | inl t ↦ let was = sym t.0 ∙ e in
-          inl ((subst (λ s. Rests s words source source' out out') was rests).2.0, subst (λ s. Appends err.bytes err'.bytes (error_line s)) was t.1)
+          inl ((subst (λ s. Rests s words source source' out out') was rests).3.0, subst (λ s. Appends err.bytes err'.bytes (error_line s)) was t.1)
       | inr t ↦ inr (t.2, said, IsCaused-rests said words source source' out out' t.0 rests, t.3)
     ]
 

@@ -14,14 +14,14 @@ use Rattle.sph_edge.specs.Causes.{Rose, Stayed}
 use Rattle.sph_edge.specs.Whole.{GaveTooMuch}
 use Rattle.sph_top.specs.declared.status.Status.{Status}
 use Rattle.sph_top.specs.declared.status.Status.TheVariants.{Done, DeckRefused, NotBuilt, ReadFault, WriteFault, NoMemory}
-use Rattle.sph_top.specs.Answers.{Seen, IsFirstDeck, IsLaterDeck, WasRead, ReadsFirst, IsDeckRefused, IsDeckLater, IsCaused, AppendsSome, AppendsToAnEnd, IsWithoutOutput}
-use Rattle.sph_top.specs.Snapshot.{first_snapshot, end_mark}
+use Rattle.sph_top.specs.declared.words.Job.{Job}
+use Rattle.sph_top.specs.Answers.{Seen, IsAcceptedDeck, WasRead, ReadsDeck, IsDeckRefused, IsCaused, AppendsSome, AppendsToAnEnd, IsWithoutOutput}
 use Rattle.sph_top.specs.Steps.{NamesItsKey, Rests}
-use Rattle.sph_top.specs.Words.{NamesRun}
-use Rattle.sph_top.proofs.Decks.{not_first_and_later}
-use Rattle.sph_top.proofs.FirstFaults.{IsFirstFault-unique, IsFirstFault-too_long}
+use Rattle.sph_top.specs.Words.{NamesAJob}
+use Rattle.sph_deck.proofs.FirstFaults.{IsFirstFault-unique, first_too_long}
 use Rattle.sph_top.proofs.NamedKeys.{NamesKey-stands}
-use Rattle.sph_top.proofs.Streams.{AppendsPrefix-whole}
+use Rattle.sph_top.proofs.Jobs.{named_not_none}
+use Rattle.sph_top.proofs.Streams.{AppendsPrefix-pieces}
 
 -- a count that stayed did not rise
 pub stayed_not_rose : (before now : ℕ) → Stayed before now → Rose before now → ⊥
@@ -52,15 +52,15 @@ IsCaused-rests Done words source source' out out' undone rests = absurd (undone 
 IsCaused-rests (DeckRefused fault) words source source' out out' undone rests = rests
 IsCaused-rests NotBuilt words source source' out out' undone rests = rests
 IsCaused-rests ReadFault words source source' out out' undone rests = rests
-IsCaused-rests WriteFault words source source' out out' undone rests = (rests.2.0, inr (rests.0, rests.1, rests.2.1))
+IsCaused-rests WriteFault words source source' out out' undone rests = (rests.3.0, inr (rests.0, rests.1, rests.2, rests.3.1))
 IsCaused-rests NoMemory words source source' out out' undone rests = rests.1
 
--- a snapshot without its end mark is some of the stream
+-- whole pieces of the output are some first bytes of it
 AppendsSome-to_an_end : (words : List (String Global)) (source source' out out' : Seen) → AppendsToAnEnd words source source' out out'
     → AppendsSome words source source' out out'
 AppendsSome-to_an_end words source source' out out' (inl none) = inl none
 AppendsSome-to_an_end words source source' out out' (inr some) =
-    inr (some.0, some.1, AppendsPrefix-whole out.bytes out'.bytes (first_snapshot some.0.particles) end_mark some.2)
+    inr (some.0, some.1, some.2, AppendsPrefix-pieces some.0 some.1 out.bytes out'.bytes some.3)
 
 -- a sink that stays as it was gets nothing
 Appends-same : (out out' : Seen) → out' ≡ out → Appends out.bytes out'.bytes []
@@ -73,11 +73,11 @@ AppendsSome-rests Done words source source' out out' undone same rests = absurd 
 AppendsSome-rests (DeckRefused fault) words source source' out out' undone same rests = inl (Appends-same out out' (same tt))
 AppendsSome-rests NotBuilt words source source' out out' undone same rests = inl (Appends-same out out' (same tt))
 AppendsSome-rests ReadFault words source source' out out' undone same rests = inl (Appends-same out out' (same tt))
-AppendsSome-rests WriteFault words source source' out out' undone same rests = inr (rests.0, rests.1, rests.2.1)
+AppendsSome-rests WriteFault words source source' out out' undone same rests = inr (rests.0, rests.1, rests.2, rests.3.1)
 AppendsSome-rests NoMemory words source source' out out' undone same rests = AppendsSome-to_an_end words source source' out out' rests.1
 
 -- a refused deck's job was named
-job_refused : (fault : DeckFault) (words : List (String Global)) (source source' : Seen) → IsDeckRefused fault words source source' → NamesRun words
+job_refused : (fault : DeckFault) (words : List (String Global)) (source source' : Seen) → IsDeckRefused fault words source source' → NamesAJob words
 job_refused fault words source source' (inl long) = long.1.job
 job_refused fault words source source' (inr faulty) = faulty.read.job
 
@@ -98,53 +98,38 @@ NamesItsKey-rests (DeckRefused fault) words source source' out out' rests = Name
 NamesItsKey-rests _ words source source' out out' rests = tt
 
 -- Where the source tells its bytes and no read failed, the answer is that of these bytes.
-module _ (words : List (String Global)) (source source' out out' : Seen) (job : NamesRun words) (bytes : List ℕ) (has : source.bytes ≡ Some bytes)
+module _ (words : List (String Global)) (source source' out out' : Seen) (job : NamesAJob words) (bytes : List ℕ) (has : source.bytes ≡ Some bytes)
     (stayed : Stayed source.faults source'.faults) where
   -- the bytes that were read
   same : (given : List ℕ) → WasRead words source source' given → given ≡ bytes
   same given read = GaveAll-same source.bytes source'.bytes bytes given has read.gave
 
-  -- a first deck that was read is that of the bytes
-  first_of : (deck : Deck) → ReadsFirst words source source' deck → IsFirstDeck bytes deck
-  first_of deck reads = subst (λ l. IsFirstDeck l deck) (same reads.bytes reads.read) reads.first
+  -- an accepted deck that was read is that of the bytes
+  deck_of : (named : Job) (deck : Deck) → ReadsDeck words source source' named deck → IsAcceptedDeck bytes deck
+  deck_of named deck reads = subst (λ l. IsAcceptedDeck l deck) (same reads.bytes reads.read) reads.deck_is
 
   -- the fault for which the deck was refused is the first of the bytes
   fault_of : (fault : DeckFault) → IsDeckRefused fault words source source' → IsFirstFault bytes fault
   fault_of fault (inl long) =
-      subst (IsFirstFault bytes) (sym long.0) (IsFirstFault-too_long bytes (GaveTooMuch-long longest_text source.bytes source'.bytes bytes has long.1.gave))
+      subst (IsFirstFault bytes) (sym long.0) (first_too_long bytes (GaveTooMuch-long longest_text source.bytes source'.bytes bytes has long.1.gave))
   fault_of fault (inr faulty) = subst (λ l. IsFirstFault l fault) (same faulty.bytes faulty.read) faulty.first
-
-  -- a deck that the program can't run yet is that of the bytes
-  later_of : (NamesRun words → ⊥) ⊎ IsDeckLater words source source' → (deck : Deck) × IsLaterDeck bytes deck
-  later_of (inl unnamed) = absurd (unnamed job)
-  later_of (inr later) = (later.deck, subst (λ l. IsLaterDeck l later.deck) (same later.bytes later.read) later.later)
 
   -- a text with a first fault is refused for it
   pub refused : (status : Status) → Rests status words source source' out out' → (fault : DeckFault) → IsFirstFault bytes fault
       → (status ≡ DeckRefused fault) ⊎ (status ≡ NoMemory)
-  refused Done rests fault first = absurd ((first_of rests.0 rests.1).accepted.accepted fault first.stands)
+  refused Done rests fault first = absurd ((deck_of rests.0 rests.1 rests.2).accepted fault first.stands)
   refused (DeckRefused other) rests fault first = inl (ap DeckRefused (IsFirstFault-unique bytes other fault (fault_of other rests) first))
-  refused NotBuilt rests fault first = absurd ((later_of rests).1.accepted.accepted fault first.stands)
+  refused NotBuilt rests fault first = absurd (named_not_none words job rests)
   refused ReadFault rests fault first = absurd (stayed_not_rose source.faults source'.faults stayed rests.1)
-  refused WriteFault rests fault first = absurd ((first_of rests.0 rests.1).accepted.accepted fault first.stands)
+  refused WriteFault rests fault first = absurd ((deck_of rests.0 rests.1 rests.2).accepted fault first.stands)
   refused NoMemory rests fault first = inr refl
 
-  -- a later deck is answered by NotBuilt
-  pub unbuilt : (status : Status) → Rests status words source source' out out' → (deck : Deck) → IsLaterDeck bytes deck
-      → (status ≡ NotBuilt) ⊎ (status ≡ NoMemory)
-  unbuilt Done rests deck later = absurd (not_first_and_later bytes rests.0 deck (first_of rests.0 rests.1) later)
-  unbuilt (DeckRefused fault) rests deck later = absurd (later.accepted.accepted fault (fault_of fault rests).stands)
-  unbuilt NotBuilt rests deck later = inl refl
-  unbuilt ReadFault rests deck later = absurd (stayed_not_rose source.faults source'.faults stayed rests.1)
-  unbuilt WriteFault rests deck later = absurd (not_first_and_later bytes rests.0 deck (first_of rests.0 rests.1) later)
-  unbuilt NoMemory rests deck later = inr refl
-
-  -- a first deck is run to its end, where no write failed
-  pub run_whole : (status : Status) → Rests status words source source' out out' → (deck : Deck) → IsFirstDeck bytes deck
+  -- the job is done on an accepted deck, where no write failed
+  pub job_done : (status : Status) → Rests status words source source' out out' → (deck : Deck) → IsAcceptedDeck bytes deck
       → Stayed out.faults out'.faults → (status ≡ Done) ⊎ (status ≡ NoMemory)
-  run_whole Done rests deck first kept = inl refl
-  run_whole (DeckRefused fault) rests deck first kept = absurd (first.accepted.accepted fault (fault_of fault rests).stands)
-  run_whole NotBuilt rests deck first kept = let later = later_of rests in absurd (not_first_and_later bytes deck later.0 first later.1)
-  run_whole ReadFault rests deck first kept = absurd (stayed_not_rose source.faults source'.faults stayed rests.1)
-  run_whole WriteFault rests deck first kept = absurd (stayed_not_rose out.faults out'.faults kept rests.2.0)
-  run_whole NoMemory rests deck first kept = inr refl
+  job_done Done rests deck accepted kept = inl refl
+  job_done (DeckRefused fault) rests deck accepted kept = absurd (accepted.accepted fault (fault_of fault rests).stands)
+  job_done NotBuilt rests deck accepted kept = absurd (named_not_none words job rests)
+  job_done ReadFault rests deck accepted kept = absurd (stayed_not_rose source.faults source'.faults stayed rests.1)
+  job_done WriteFault rests deck accepted kept = absurd (stayed_not_rose out.faults out'.faults kept rests.3.0)
+  job_done NoMemory rests deck accepted kept = inr refl

@@ -1,5 +1,5 @@
 -- What each answer of the top call says of the words, of the bytes that came and of those that went.
-use Rattle.std.specs.Prelude.{◌≡◌, ℕ, ◌<◌, ◌≤◌, ◌⊎◌, List, [], length, Option, String, ⊤}
+use Rattle.std.specs.Prelude.{◌≡◌, ℕ, ◌≤◌, ◌⊎◌, List, [], length, Option, String, ⊤}
 use Rattle.std.specs.declared.alloc.Global.{Global}
 use Rattle.std.specs.Io.KnownBytes.{Appends, Keeps}
 use Rattle.sph_deck.specs.declared.deck.Deck.{Deck}
@@ -12,9 +12,10 @@ use Rattle.sph_edge.specs.Causes.{Rose}
 use Rattle.sph_edge.specs.Whole.{GaveTooMuch}
 use Rattle.sph_top.specs.declared.status.Status.{Status}
 use Rattle.sph_top.specs.declared.status.Status.TheVariants.{Done, DeckRefused, NotBuilt, ReadFault, WriteFault, NoMemory}
+use Rattle.sph_top.specs.declared.words.Job.{Job}
 use Rattle.sph_top.specs.Lines.{error_line}
-use Rattle.sph_top.specs.Snapshot.{first_snapshot, stream_of}
-use Rattle.sph_top.specs.Words.{NamesRun}
+use Rattle.sph_top.specs.Output.{AppendsPieces, output_of}
+use Rattle.sph_top.specs.Words.{NamesAJob, NamesJob, NamesNone}
 
 -- a device at a moment: the bytes that it has left or holds, where it tells them, and its count of faults
 pub record Seen : Type 0 where
@@ -24,9 +25,9 @@ pub record Seen : Type 0 where
 abbrev pub seen : {D : Type 0} → (D → Option (List ℕ)) → (D → ℕ) → D → Seen
 seen bytes faults device = record { bytes = bytes device; faults = faults device }
 
--- the job was named, and these bytes were read to their end without a failure
+-- a job was named, and these bytes were read to their end without a failure
 pub record WasRead (words : List (String Global)) (source source' : Seen) (bytes : List ℕ) : Type 0 where
-  pub job : NamesRun words
+  pub job : NamesAJob words
   pub gave : GaveAll source.bytes source'.bytes bytes
   pub none_failed : source'.faults ≡ source.faults
 
@@ -35,33 +36,24 @@ pub record IsAcceptedDeck (bytes : List ℕ) (deck : Deck) : Type 0 where
   pub accepted : IsAccepted bytes
   pub numbers : IsDeckOf bytes deck
 
--- a first deck: accepted, with one snapshot and one time bin
-pub record IsFirstDeck (bytes : List ℕ) (deck : Deck) : Type 0 where
-  pub accepted : IsAcceptedDeck bytes deck
-  pub one_snapshot : deck.params.ticks ≡ 0
-  pub one_bin : deck.params.bin_max ≡ 0
-
--- a later deck: accepted, with more snapshots or more time bins
-pub record IsLaterDeck (bytes : List ℕ) (deck : Deck) : Type 0 where
-  pub accepted : IsAcceptedDeck bytes deck
-  pub later : (0 < deck.params.ticks) ⊎ (0 < deck.params.bin_max)
-
--- the job was named, and a first deck was read to its end
-pub record ReadsFirst (words : List (String Global)) (source source' : Seen) (deck : Deck) : Type 0 where
+-- the job was named, and an accepted deck was read to its end
+pub record ReadsDeck (words : List (String Global)) (source source' : Seen) (job : Job) (deck : Deck) : Type 0 where
+  pub job_is : NamesJob words job
   pub bytes : List ℕ
   pub read : WasRead words source source' bytes
-  pub first : IsFirstDeck bytes deck
+  pub deck_is : IsAcceptedDeck bytes deck
 
 -- Done: the whole input was read, the whole output was appended, and nothing was written on `err`
 pub record IsDone (words : List (String Global)) (source source' out out' err err' : Seen) : Type 0 where
+  pub job : Job
   pub deck : Deck
-  pub read : ReadsFirst words source source' deck
-  pub output : Appends out.bytes out'.bytes (stream_of deck.particles)
+  pub read : ReadsDeck words source source' job deck
+  pub output : Appends out.bytes out'.bytes (output_of job deck)
   pub quiet : Keeps err.bytes err'.bytes
 
 -- the deck is longer than a deck may be: no more was read than shows it
 pub record IsDeckTooLong (words : List (String Global)) (source source' : Seen) : Type 0 where
-  pub job : NamesRun words
+  pub job : NamesAJob words
   pub gave : GaveTooMuch longest_text source.bytes source'.bytes
   pub none_failed : source'.faults ≡ source.faults
 
@@ -77,32 +69,24 @@ abbrev pub IsDeckRefused : DeckFault → List (String Global) → Seen → Seen 
 IsDeckRefused fault words source source' =
     ((fault ≡ TooLong) × IsDeckTooLong words source source') ⊎ IsDeckFaulty fault words source source'
 
--- the deck was read to its end, and the program can't run it yet
-pub record IsDeckLater (words : List (String Global)) (source source' : Seen) : Type 0 where
-  pub deck : Deck
-  pub bytes : List ℕ
-  pub read : WasRead words source source' bytes
-  pub later : IsLaterDeck bytes deck
-
--- nothing was appended, or, where a first deck was read, some of its stream's first bytes
+-- nothing was appended, or, where an accepted deck was read, some first bytes of the job's output
 abbrev pub AppendsSome : List (String Global) → Seen → Seen → Seen → Seen → Type 0
 AppendsSome words source source' out out' =
     Appends out.bytes out'.bytes []
-    ⊎ ((deck : Deck) × ReadsFirst words source source' deck × AppendsPrefix out.bytes out'.bytes (stream_of deck.particles))
+    ⊎ ((job : Job) × (deck : Deck) × ReadsDeck words source source' job deck × AppendsPrefix out.bytes out'.bytes (output_of job deck))
 
--- nothing was appended, or, where a first deck was read, just its snapshot
+-- the same, where those first bytes end behind a snapshot or a line
 abbrev pub AppendsToAnEnd : List (String Global) → Seen → Seen → Seen → Seen → Type 0
 AppendsToAnEnd words source source' out out' =
     Appends out.bytes out'.bytes []
-    ⊎ ((deck : Deck) × ReadsFirst words source source' deck × Appends out.bytes out'.bytes (first_snapshot deck.particles))
+    ⊎ ((job : Job) × (deck : Deck) × ReadsDeck words source source' job deck × AppendsPieces job deck out.bytes out'.bytes)
 
 -- what a refusal rests on: the words, the bytes that were read, or a count that rose
 abbrev pub IsCaused : Status → List (String Global) → Seen → Seen → Seen → Seen → Type 0
 IsCaused Done words source source' out out' = ⊥
 IsCaused (DeckRefused fault) words source source' out out' = IsDeckRefused fault words source source'
-IsCaused NotBuilt words source source' out out' =
-    (NamesRun words → ⊥) ⊎ IsDeckLater words source source'
-IsCaused ReadFault words source source' out out' = NamesRun words × Rose source.faults source'.faults
+IsCaused NotBuilt words source source' out out' = NamesNone words
+IsCaused ReadFault words source source' out out' = NamesAJob words × Rose source.faults source'.faults
 IsCaused WriteFault words source source' out out' = Rose out.faults out'.faults × AppendsSome words source source' out out'
 IsCaused NoMemory words source source' out out' = AppendsToAnEnd words source source' out out'
 

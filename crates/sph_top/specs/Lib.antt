@@ -5,6 +5,6 @@ pub use Rattle.sph_edge.specs.Causes
 pub use Rattle.sph_report.specs.DeckLines
 pub mod Answers
 pub mod Lines
-pub mod Snapshot
+pub mod Output
 pub mod Steps
 pub mod Words

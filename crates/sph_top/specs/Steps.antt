@@ -10,38 +10,38 @@ use Rattle.sph_edge.specs.Causes.{Rose}
 use Rattle.sph_report.specs.DeckLines.{NamesKey}
 use Rattle.sph_top.specs.declared.status.Status.{Status}
 use Rattle.sph_top.specs.declared.status.Status.TheVariants.{Done, DeckRefused, NotBuilt, ReadFault, WriteFault, NoMemory}
-use Rattle.sph_top.specs.Answers.{Seen, IsFirstDeck, IsLaterDeck, ReadsFirst, IsDeckRefused, IsDeckLater, AppendsToAnEnd}
+use Rattle.sph_top.specs.declared.words.Job.{Job}
+use Rattle.sph_top.specs.Answers.{Seen, IsAcceptedDeck, ReadsDeck, IsDeckRefused, AppendsToAnEnd}
 use Rattle.sph_top.specs.Lines.{error_line}
-use Rattle.sph_top.specs.Snapshot.{stream_of}
-use Rattle.sph_top.specs.Words.{NamesRun}
+use Rattle.sph_top.specs.Output.{AppendsPieces, output_of}
+use Rattle.sph_top.specs.Words.{NamesAJob, NamesNone}
 
--- what the answer says of a stream: it was written whole at Done, some of it at a write fault, nothing where memory ran out
-abbrev pub Writes : List ℕ → Status → Seen → Seen → Type 0
-Writes stream Done out out' = Appends out.bytes out'.bytes stream
-Writes stream WriteFault out out' = Rose out.faults out'.faults × AppendsPrefix out.bytes out'.bytes stream
-Writes stream NoMemory out out' = Appends out.bytes out'.bytes []
-Writes stream _ out out' = ⊥
+-- what the answer says of a job's output for a deck: written whole at Done, some first bytes at a write fault, some whole pieces where memory ran out
+abbrev pub Writes : Job → Deck → Status → Seen → Seen → Type 0
+Writes job deck Done out out' = Appends out.bytes out'.bytes (output_of job deck)
+Writes job deck WriteFault out out' = Rose out.faults out'.faults × AppendsPrefix out.bytes out'.bytes (output_of job deck)
+Writes job deck NoMemory out out' = AppendsPieces job deck out.bytes out'.bytes
+Writes job deck _ out out' = ⊥
 
--- what the answer says of a text that was read whole, and what came of its stream
-abbrev pub Follows : List ℕ → Status → Seen → Seen → Type 0
-Follows bytes (DeckRefused fault) out out' = IsFirstFault bytes fault
-Follows bytes NotBuilt out out' = (deck : Deck) × IsLaterDeck bytes deck
-Follows bytes Done out out' = (deck : Deck) × IsFirstDeck bytes deck × Writes (stream_of deck.particles) Done out out'
-Follows bytes WriteFault out out' = (deck : Deck) × IsFirstDeck bytes deck × Writes (stream_of deck.particles) WriteFault out out'
-Follows bytes NoMemory out out' = Appends out.bytes out'.bytes []
-Follows bytes ReadFault out out' = ⊥
+-- what the answer says of a text that was read whole, and what came of the job
+abbrev pub Follows : Job → List ℕ → Status → Seen → Seen → Type 0
+Follows job bytes (DeckRefused fault) out out' = IsFirstFault bytes fault
+Follows job bytes Done out out' = (deck : Deck) × IsAcceptedDeck bytes deck × Writes job deck Done out out'
+Follows job bytes WriteFault out out' = (deck : Deck) × IsAcceptedDeck bytes deck × Writes job deck WriteFault out out'
+Follows job bytes NoMemory out out' =
+    Appends out.bytes out'.bytes [] ⊎ ((deck : Deck) × IsAcceptedDeck bytes deck × Writes job deck NoMemory out out')
+Follows job bytes _ out out' = ⊥
 
 -- what each answer rests on, before its line is written
 abbrev pub Rests : Status → List (String Global) → Seen → Seen → Seen → Seen → Type 0
 Rests Done words source source' out out' =
-    (deck : Deck) × ReadsFirst words source source' deck × Writes (stream_of deck.particles) Done out out'
+    (job : Job) × (deck : Deck) × ReadsDeck words source source' job deck × Writes job deck Done out out'
 Rests (DeckRefused fault) words source source' out out' = IsDeckRefused fault words source source'
-Rests NotBuilt words source source' out out' =
-    (NamesRun words → ⊥) ⊎ IsDeckLater words source source'
-Rests ReadFault words source source' out out' = NamesRun words × Rose source.faults source'.faults
+Rests NotBuilt words source source' out out' = NamesNone words
+Rests ReadFault words source source' out out' = NamesAJob words × Rose source.faults source'.faults
 Rests WriteFault words source source' out out' =
-    (deck : Deck) × ReadsFirst words source source' deck × Writes (stream_of deck.particles) WriteFault out out'
-Rests NoMemory words source source' out out' = NamesRun words × AppendsToAnEnd words source source' out out'
+    (job : Job) × (deck : Deck) × ReadsDeck words source source' job deck × Writes job deck WriteFault out out'
+Rests NoMemory words source source' out out' = NamesAJob words × AppendsToAnEnd words source source' out out'
 
 -- the key that a refused deck's line names is one
 abbrev pub NamesItsKey : Status → Type 0

@@ -1,8 +1,23 @@
 -- Which words name a job.
-use Rattle.std.specs.Prelude.{◌≡◌, List, map, length, slice_get, Some, codes, String, string_bytes}
+use Rattle.std.specs.Prelude.{◌≡◌, ℕ, List, map, length, slice_get, Some, codes, String, string_bytes}
 use Rattle.std.specs.declared.alloc.Global.{Global}
+use Rattle.sph_top.specs.declared.words.Job.{Job}
+use Rattle.sph_top.specs.declared.words.Job.TheVariants.{Run, Plain, Check}
 
--- the words are the program's name and `run`
-pub record NamesRun (words : List (String Global)) : Type 0 where
+-- the job's word
+abbrev pub word_of : Job → List ℕ
+word_of Run = codes "run"
+word_of Plain = codes "plain"
+word_of Check = codes "check"
+
+-- the words are the program's name and the job's word
+pub record NamesJob (words : List (String Global)) (job : Job) : Type 0 where
   pub two : length words ≡ 2
-  pub run : slice_get (map string_bytes words) 1 ≡ Some (codes "run")
+  pub word : slice_get (map string_bytes words) 1 ≡ Some (word_of job)
+
+-- some job is named, and none is
+abbrev pub NamesAJob : List (String Global) → Type 0
+NamesAJob words = (job : Job) × NamesJob words job
+
+abbrev pub NamesNone : List (String Global) → Type 0
+NamesNone words = (job : Job) → NamesJob words job → ⊥

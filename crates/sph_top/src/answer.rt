@@ -5,25 +5,24 @@ ghost use Rattle.sph_deck.specs.FirstFault.{IsFirstFault};
 ghost use Rattle.sph_deck.specs.declared.deck.Deck.{Deck};
 ghost use Rattle.sph_deck.specs.declared.fault.DeckFault.{DeckFault};
 ghost use Rattle.sph_edge.specs.Causes.{Rose, Stayed};
-ghost use Rattle.sph_top.specs.Answers.{seen, IsDone, IsFirstDeck, IsLaterDeck, IsDeckRefused, IsDeckLater, AppendsSome, AppendsToAnEnd, IsWithoutOutput, TellsWriteFault, Yields};
+ghost use Rattle.sph_top.specs.Answers.{seen, IsAcceptedDeck, IsDone, IsDeckRefused, AppendsSome, AppendsToAnEnd, IsWithoutOutput, TellsWriteFault, Yields};
 ghost use Rattle.sph_top.specs.Lines.{error_line};
 ghost use Rattle.sph_top.specs.Steps.{Rests};
-ghost use Rattle.sph_top.specs.Words.{NamesRun};
+ghost use Rattle.sph_top.specs.Words.{NamesAJob, NamesNone};
 
+use crate::job::do_job;
 use crate::report::report;
-use crate::run::run_deck;
 use crate::status::Status;
-use crate::words::names_run;
+use crate::words::job_of;
 use sph_deck::{DeckFault, LONGEST_TEXT};
 use sph_edge::{Gate, ReadEnd, Sink, Source, read_whole};
 use std::alloc::Global;
 use std::thread::Threads;
 
-/// All that the program does. It reads the words, then the whole source, writes the output to `out`, and
-/// writes the line of a refusal to `err`.
+/// All that the program does. It reads the words, then the whole source, does the job on the deck, writes
+/// the output to `out`, and writes the line of a refusal to `err`.
 ///
-/// So far the one job is `run`, and it runs first decks: accepted decks with `ticks = 0` and
-/// `bin_max = 0`. Other words and other accepted decks are answered by `NotBuilt`.
+/// So far the jobs are `run`, `plain` and `check`, without options. Other words are answered by `NotBuilt`.
 pub fn swiftq<R: Threads + Sync, S: Source, O: Sink, E: Sink, G: Gate>(
     _rt: &R,
     alloc: Global,
@@ -40,19 +39,14 @@ pub fn swiftq<R: Threads + Sync, S: Source, O: Sink, E: Sink, G: Gate>(
     // A deck is refused exactly where it has a fault, and for its first.
     ensures deck_refused { (fault : DeckFault) → result ≡ Status.DeckRefused fault
         → IsDeckRefused fault words.now (seen S.left S.faults source.old) (seen S.left S.faults source.new) }
-    ensures deck_refused_where { NamesRun words.now → (bytes : List ℕ) → S.left source.old ≡ Some bytes
+    ensures deck_refused_where { NamesAJob words.now → (bytes : List ℕ) → S.left source.old ≡ Some bytes
         → Stayed (S.faults source.old) (S.faults source.new) → (fault : DeckFault) → IsFirstFault bytes fault
         → Yields (Status.DeckRefused fault) result (seen E.held E.faults err.old) (seen E.held E.faults err.new) }
 
-    // What isn't built yet: words that are no job, and then nothing is read, and accepted decks of more than one snapshot or time bin.
-    ensures not_built { result ≡ Status.NotBuilt → (NamesRun words.now → ⊥)
-        ⊎ IsDeckLater words.now (seen S.left S.faults source.old) (seen S.left S.faults source.new) }
-    ensures not_built_for_words { (NamesRun words.now → ⊥)
-        → Yields Status.NotBuilt result (seen E.held E.faults err.old) (seen E.held E.faults err.new) }
-    ensures nothing_read_for_words { (NamesRun words.now → ⊥) → source.new ≡ source.old }
-    ensures not_built_for_deck { NamesRun words.now → (bytes : List ℕ) → S.left source.old ≡ Some bytes
-        → Stayed (S.faults source.old) (S.faults source.new) → (deck : Deck) → IsLaterDeck bytes deck
-        → Yields Status.NotBuilt result (seen E.held E.faults err.old) (seen E.held E.faults err.new) }
+    // What isn't built yet: words that are no job, and then nothing is read.
+    ensures not_built { result ≡ Status.NotBuilt → NamesNone words.now }
+    ensures not_built_where { NamesNone words.now → Yields Status.NotBuilt result (seen E.held E.faults err.old) (seen E.held E.faults err.new) }
+    ensures nothing_read { NamesNone words.now → source.new ≡ source.old }
 
     // A fault comes only where a count of faults rose.
     ensures read_fault { result ≡ Status.ReadFault → Rose (S.faults source.old) (S.faults source.new) }
@@ -71,8 +65,8 @@ pub fn swiftq<R: Threads + Sync, S: Source, O: Sink, E: Sink, G: Gate>(
         (seen S.left S.faults source.old) (seen S.left S.faults source.new) (seen O.held O.faults out.old) (seen O.held O.faults out.new)
         (seen E.held E.faults err.old) (seen E.held E.faults err.new) }
 
-    // A named job, a first deck and no fault give Done, unless memory runs out.
-    ensures complete { NamesRun words.now → (bytes : List ℕ) → S.left source.old ≡ Some bytes → (deck : Deck) → IsFirstDeck bytes deck
+    // A named job, an accepted deck and no fault give Done, unless memory runs out.
+    ensures complete { NamesAJob words.now → (bytes : List ℕ) → S.left source.old ≡ Some bytes → (deck : Deck) → IsAcceptedDeck bytes deck
         → Stayed (S.faults source.old) (S.faults source.new) → Stayed (O.faults out.old) (O.faults out.new)
         → Stayed (E.faults err.old) (E.faults err.new) → (result ≡ Status.Done) ⊎ (result ≡ Status.NoMemory) }
 {
@@ -80,7 +74,7 @@ pub fn swiftq<R: Threads + Sync, S: Source, O: Sink, E: Sink, G: Gate>(
     report(alloc, status, err)
 }
 
-/// The answer before its line is written: reads the words and the source, and writes the output.
+/// The answer before its line is written: reads the words and the source, and does the job.
 fn answer<S: Source, O: Sink>(
     alloc: Global,
     words: &[String],
@@ -89,14 +83,14 @@ fn answer<S: Source, O: Sink>(
 ) -> Status
     ensures rests { Rests result words.now (seen S.left S.faults source.old) (seen S.left S.faults source.new)
         (seen O.held O.faults out.old) (seen O.held O.faults out.new) }
-    ensures unread { (NamesRun words.now → ⊥) → source.new ≡ source.old }
+    ensures unread { NamesNone words.now → source.new ≡ source.old }
     ensures untouched { IsWithoutOutput result → out.new ≡ out.old }
 {
-    if !names_run(words) {
+    let Some(job) = job_of(words) else {
         return Status::NotBuilt;
-    }
+    };
     match read_whole(alloc, source, LONGEST_TEXT) {
-        Ok(bytes) => run_deck(alloc, &bytes, out),
+        Ok(bytes) => do_job(alloc, job, &bytes, out),
         Err(ReadEnd::TooLong) => Status::DeckRefused(DeckFault::TooLong),
         Err(ReadEnd::Fault) => Status::ReadFault,
         Err(ReadEnd::Memory) => Status::NoMemory,

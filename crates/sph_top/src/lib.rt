@@ -1,14 +1,12 @@
-//! The top call: all that the program does, from the words and the bytes that come in to the bytes that
-//! go out, with the snapshot theorem as its contract.
+//! The top call, which carries the snapshot theorem.
 #![tactic(auto)]
 
 mod answer;
-mod density;
+mod job;
 mod report;
-mod run;
-mod snapshot;
 mod status;
 mod words;
 
 pub use answer::swiftq;
 pub use status::{Status, exit_of};
+pub use words::Job;

@@ -11,7 +11,7 @@ pub enum Status {
     Done,
     /// The deck has this fault.
     DeckRefused(DeckFault),
-    /// The words or the deck ask for what isn't built yet.
+    /// The words ask for what isn't built yet.
     NotBuilt,
     /// A read of the input failed.
     ReadFault,

@@ -2,6 +2,8 @@
 #![tactic(auto)]
 
 #[cfg(test)]
+mod runs;
+#[cfg(test)]
 mod tests;
 
 use sph_edge::{NoGate, StdSink, StdSource};

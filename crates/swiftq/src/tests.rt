@@ -8,9 +8,24 @@ use std::alloc::{AllocError, Global};
 use std::test::Fail;
 use std::thread::Threads;
 
+/// The numbers of a deck's top in which the worked decks differ.
+#[derive(Clone, Copy)]
+pub(crate) struct Top {
+    pub ticks: u32,
+    pub every: u32,
+    pub bin_max: u32,
+    pub shift: u32,
+    pub accuracy: u32,
+}
+
 /// The top of a deck of one snapshot.
-const BASE: &str =
-    "ticks = 0\nevery = 1\nbin_min = 0\nbin_max = 0\nsound = 65536\nshift = 20\naccuracy = 0\nleaf = 16\npairs = 4096\nslack = 0\n";
+pub(crate) const ONE_SNAPSHOT: Top = Top {
+    ticks: 0,
+    every: 1,
+    bin_max: 0,
+    shift: 20,
+    accuracy: 0,
+};
 
 /// The stream of one particle of mass 1 and h 131072 at the origin, at rest.
 const ONE_PARTICLE: [u8; 108] = [
@@ -23,19 +38,49 @@ const ONE_PARTICLE: [u8; 108] = [
     0x53, 0x50, 0x48, 0x53, 0x4e, 0x45, 0x4e, 0x44,
 ];
 
-/// The rest of a particle at rest on the x axis.
-const AT_REST: &str = "y = 0\nz = 0\npx = 0\npy = 0\npz = 0\n";
+/// A particle on the x axis that moves along it.
+#[derive(Clone, Copy)]
+pub(crate) struct Body {
+    pub mass: u32,
+    pub h: u32,
+    pub x: u32,
+    pub px: i64,
+}
 
-/// A particle at rest, by its mass, its smoothing length and its x.
-type Body = (u32, u32, u32);
+/// The light particle of the one-particle stream.
+const LIGHT: Body = Body {
+    mass: 1,
+    h: 131_072,
+    x: 0,
+    px: 0,
+};
 
-fn deck(alloc: Global, bodies: &[Body]) -> Result<String, AllocError> {
-    let mut text = String::from_str(alloc, BASE)?;
-    for &(mass, h, x) in bodies {
-        let particle = format!(in alloc;
-            "[[particle]]\nmass = {mass}\nh = {h}\nx = {x}\n{AT_REST}"
-        )?;
-        text.push_str(particle.as_str())?;
+/// The lines of a particle.
+fn push_body(alloc: Global, text: &mut String, body: Body) -> Result<(), AllocError> {
+    let Body { mass, h, x, px } = body;
+    let lines = format!(in alloc;
+        "[[particle]]\nmass = {mass}\nh = {h}\nx = {x}\ny = 0\nz = 0\npx = {px}\npy = 0\npz = 0\n"
+    )?;
+    text.push_str(lines.as_str())
+}
+
+/// The text of a deck.
+pub(crate) fn deck(alloc: Global, top: Top, bodies: &[Body]) -> Result<String, AllocError> {
+    let Top {
+        ticks,
+        every,
+        bin_max,
+        shift,
+        accuracy,
+    } = top;
+    let bins = format!(in alloc;
+        "ticks = {ticks}\nevery = {every}\nbin_min = 0\nbin_max = {bin_max}\n"
+    )?;
+    let mut text = format!(in alloc;
+        "{bins}sound = 65536\nshift = {shift}\naccuracy = {accuracy}\nleaf = 16\npairs = 4096\nslack = 0\n"
+    )?;
+    for body in bodies {
+        push_body(alloc, &mut text, *body)?;
     }
     Ok(text)
 }
@@ -57,10 +102,10 @@ fn sink(alloc: Global, room: usize, most: usize, fails: u64) -> Result<MemorySin
 
 /// A run's answer and its two outputs.
 #[derive(Drop)]
-struct Outcome {
-    status: Status,
-    out: MemorySink,
-    err: MemorySink,
+pub(crate) struct Outcome {
+    pub status: Status,
+    pub out: MemorySink,
+    pub err: MemorySink,
 }
 
 fn run<R: Threads + Sync>(
@@ -87,31 +132,28 @@ fn run<R: Threads + Sync>(
     Ok(Outcome { status, out, err })
 }
 
-/// A run of a text with ample room and no failure.
-fn run_text<R: Threads + Sync>(rt: &R, alloc: Global, text: &str) -> Result<Outcome, AllocError> {
+/// A job on a text with ample room and no failure.
+pub(crate) fn do_job<R: Threads + Sync>(
+    rt: &R,
+    alloc: Global,
+    job: &str,
+    text: &str,
+) -> Result<Outcome, AllocError> {
     let mut source = source(alloc, text, usize::MAX, 0)?;
     run(
         rt,
         alloc,
-        "run",
+        job,
         &mut source,
         sink(alloc, 16_384, usize::MAX, 0)?,
         sink(alloc, 256, usize::MAX, 0)?,
     )
 }
 
-/// The density in a row of a stream's first snapshot.
-fn rho(stream: &[u8], row: usize) -> Option<u64> {
-    let start = row.checked_mul(84)?.checked_add(88)?;
-    let end = start.checked_add(8)?;
-    let bytes: [u8; 8] = stream.get(start..end)?.try_into().ok()?;
-    Some(u64::from_le_bytes(bytes))
-}
-
 #[test]
 fn one_particle_stream(rt: HostRuntime) -> Result<(), Fail> {
-    let text = deck(rt.alloc(), &[(1, 131_072, 0)])?;
-    let run = run_text(&rt, rt.alloc(), text.as_str())?;
+    let text = deck(rt.alloc(), ONE_SNAPSHOT, &[LIGHT])?;
+    let run = do_job(&rt, rt.alloc(), "run", text.as_str())?;
     assert_eq!(rt; run.status, Status::Done);
     assert!(rt; run.out.held() == ONE_PARTICLE.as_slice());
     assert!(rt; run.err.held().is_empty());
@@ -119,62 +161,9 @@ fn one_particle_stream(rt: HostRuntime) -> Result<(), Fail> {
 }
 
 #[test]
-fn densities(rt: HostRuntime) -> Result<(), Fail> {
-    let alone = 43_748_163_584;
-    let pair = 54_685_204_480;
-    let cases: [(&str, [Body; 2], [u64; 2]); 4] = [
-        (
-            "at half reach",
-            [(1_024, 1_024, 1_000), (1_024, 1_024, 1_512)],
-            [pair, pair],
-        ),
-        (
-            "across the face",
-            [(1_024, 1_024, 1_048_320), (1_024, 1_024, 256)],
-            [pair, pair],
-        ),
-        (
-            "at exact reach",
-            [(1_024, 1_024, 1_000), (1_024, 1_024, 2_024)],
-            [alone, alone],
-        ),
-        (
-            "of two lengths",
-            [(1_024, 1_024, 1_000), (1_024, 2_048, 2_024)],
-            [alone, 6_835_650_560],
-        ),
-    ];
-    let one = run_text(
-        &rt,
-        rt.alloc(),
-        deck(rt.alloc(), &[(1_024, 1_024, 0)])?.as_str(),
-    )?;
-    assert_eq!(rt; rho(one.out.held(), 0), Some(alone));
-    for (name, bodies, want) in cases {
-        let text = deck(rt.alloc(), &bodies)?;
-        let run = run_text(&rt, rt.alloc(), text.as_str())?;
-        assert_eq!(rt; run.status, Status::Done, "{name}");
-        assert_eq!(rt; rho(run.out.held(), 0), Some(want[0]), "{name}");
-        assert_eq!(rt; rho(run.out.held(), 1), Some(want[1]), "{name}");
-    }
-    Ok(())
-}
-
-#[test]
-fn forty_at_one_point(rt: HostRuntime) -> Result<(), Fail> {
-    let text = deck(rt.alloc(), &[(1, 131_072, 0); 40])?;
-    let run = run_text(&rt, rt.alloc(), text.as_str())?;
-    assert_eq!(rt; run.status, Status::Done);
-    for row in 0..40 {
-        assert_eq!(rt; rho(run.out.held(), row), Some(800), "at {row}");
-    }
-    Ok(())
-}
-
-#[test]
 fn short_sink_fails(rt: HostRuntime) -> Result<(), Fail> {
     let alloc = rt.alloc();
-    let text = deck(alloc, &[(1, 131_072, 0)])?;
+    let text = deck(alloc, ONE_SNAPSHOT, &[LIGHT])?;
     let mut source = source(alloc, text.as_str(), usize::MAX, 0)?;
     let run = run(
         &rt,
@@ -193,7 +182,7 @@ fn short_sink_fails(rt: HostRuntime) -> Result<(), Fail> {
 #[test]
 fn failing_source(rt: HostRuntime) -> Result<(), Fail> {
     let alloc = rt.alloc();
-    let text = deck(alloc, &[(1, 131_072, 0)])?;
+    let text = deck(alloc, ONE_SNAPSHOT, &[LIGHT])?;
     let mut source = source(alloc, text.as_str(), 16, 2)?;
     let run = run(
         &rt,
@@ -238,7 +227,7 @@ fn filled(alloc: Global, text: &str, size: usize) -> Result<MemorySource, AllocE
 #[test]
 fn refusals_tell_their_line(rt: HostRuntime) -> Result<(), Fail> {
     let alloc = rt.alloc();
-    let light = deck(alloc, &[(0, 131_072, 0)])?;
+    let light = deck(alloc, ONE_SNAPSHOT, &[Body { mass: 0, ..LIGHT }])?;
     let cases = [
         ("", "missing ticks at the top"),
         ("a = ", "not TOML"),
@@ -246,7 +235,7 @@ fn refusals_tell_their_line(rt: HostRuntime) -> Result<(), Fail> {
         (light.as_str(), "mass at particle 1 out of range: 0"),
     ];
     for (text, line) in cases {
-        let run = run_text(&rt, alloc, text)?;
+        let run = do_job(&rt, alloc, "run", text)?;
         assert!(rt; matches!(run.status, Status::DeckRefused(_)), "{line}");
         let want = format!(in alloc; "swiftq: deck refused: {line}\n")?;
         assert!(rt; run.err.held() == want.as_bytes(), "{line}");
@@ -256,39 +245,20 @@ fn refusals_tell_their_line(rt: HostRuntime) -> Result<(), Fail> {
 }
 
 #[test]
-fn later_decks_are_not_built(rt: HostRuntime) -> Result<(), Fail> {
+fn other_words_are_not_built(rt: HostRuntime) -> Result<(), Fail> {
     let alloc = rt.alloc();
-    let one = deck(alloc, &[(1, 131_072, 0)])?;
-    let rest = one
-        .as_str()
-        .strip_prefix("ticks = 0\nevery = 1\nbin_min = 0\nbin_max = 0\n")
-        .ok_or("top")?;
-    let ticking = format!(in alloc; "ticks = 1\nevery = 1\nbin_min = 0\nbin_max = 0\n{rest}")?;
-    let binned = format!(in alloc; "ticks = 0\nevery = 4\nbin_min = 0\nbin_max = 2\n{rest}")?;
-    for (job, text) in [("fly", &one), ("run", &ticking), ("run", &binned)] {
-        let mut source = source(alloc, text.as_str(), usize::MAX, 0)?;
-        let run = run(
-            &rt,
-            alloc,
-            job,
-            &mut source,
-            sink(alloc, 108, 108, 0)?,
-            sink(alloc, 256, 256, 0)?,
-        )?;
-        assert_eq!(rt; run.status, Status::NotBuilt, "{job}");
-        assert!(rt;
-            run.err.held() == b"swiftq: not built\n".as_slice(),
-            "{job}"
-        );
-        assert!(rt; run.out.held().is_empty(), "{job}");
-    }
+    let text = deck(alloc, ONE_SNAPSHOT, &[LIGHT])?;
+    let run = do_job(&rt, alloc, "fly", text.as_str())?;
+    assert_eq!(rt; run.status, Status::NotBuilt);
+    assert!(rt; run.err.held() == b"swiftq: not built\n".as_slice());
+    assert!(rt; run.out.held().is_empty());
     Ok(())
 }
 
 #[test]
 fn longest_text(rt: HostRuntime) -> Result<(), Fail> {
     let alloc = rt.alloc();
-    let text = deck(alloc, &[(1, 131_072, 0)])?;
+    let text = deck(alloc, ONE_SNAPSHOT, &[LIGHT])?;
     let mut whole = filled(alloc, text.as_str(), 16_777_216)?;
     let done = run(
         &rt,
@@ -301,41 +271,46 @@ fn longest_text(rt: HostRuntime) -> Result<(), Fail> {
     assert_eq!(rt; done.status, Status::Done);
     assert!(rt; done.out.held() == ONE_PARTICLE.as_slice());
 
-    // One byte more is taken, and not the one behind it.
-    let mut longer = filled(alloc, text.as_str(), 16_777_218)?;
-    let refused = run(
-        &rt,
-        alloc,
-        "run",
-        &mut longer,
-        sink(alloc, 108, 108, 0)?,
-        sink(alloc, 256, 256, 0)?,
-    )?;
-    assert!(rt; refused.status == Status::DeckRefused(DeckFault::TooLong));
-    assert!(rt;
-        refused.err.held() == b"swiftq: deck refused: longer than 16777216 bytes\n".as_slice()
-    );
-    assert_eq!(rt; longer.take(&mut [0; 4]), Ok(1));
+    // Of a longer text 16,777,217 bytes are taken, and not the one behind them.
+    for (size, left) in [(16_777_217, 0), (16_777_218, 1)] {
+        let mut longer = filled(alloc, text.as_str(), size)?;
+        let refused = run(
+            &rt,
+            alloc,
+            "run",
+            &mut longer,
+            sink(alloc, 108, 108, 0)?,
+            sink(alloc, 256, 256, 0)?,
+        )?;
+        assert!(rt;
+            refused.status == Status::DeckRefused(DeckFault::TooLong),
+            "of {size}"
+        );
+        assert!(rt;
+            refused.err.held() == b"swiftq: deck refused: longer than 16777216 bytes\n".as_slice(),
+            "of {size}"
+        );
+        assert!(rt; refused.out.held().is_empty(), "of {size}");
+        assert_eq!(rt; longer.take(&mut [0; 4]), Ok(left), "of {size}");
+    }
     Ok(())
 }
 
 #[test]
 fn greatest_deck(rt: HostRuntime) -> Result<(), Fail> {
     let alloc = rt.alloc();
-    let mut text = String::from_str(alloc, BASE)?;
+    let mut text = deck(alloc, ONE_SNAPSHOT, &[])?;
     for i in 0..32_768u32 {
         let x = i.saturating_mul(32);
-        let particle = format!(in alloc; "[[particle]]\nmass = 1\nh = 131072\nx = {x}\n{AT_REST}")?;
-        text.push_str(particle.as_str())?;
+        push_body(alloc, &mut text, Body { x, ..LIGHT })?;
     }
-    let deck = read_deck(alloc, text.as_bytes()).ok().ok_or("refused")?;
+    let read = read_deck(alloc, text.as_bytes()).ok().ok_or("refused")?;
     assert_eq!(rt;
-        bound_of(&deck.params, deck.particles.as_slice()),
+        bound_of(&read.params, read.particles.as_slice()),
         1_675_037_245_440
     );
 
-    text.push_str("[[particle]]\nmass = 1\nh = 131072\nx = 0\n")?;
-    text.push_str(AT_REST)?;
+    push_body(alloc, &mut text, LIGHT)?;
     let refusal = read_deck(alloc, text.as_bytes()).err();
     assert!(rt; refusal == Some(DeckRefusal::Fault(DeckFault::TooMany(32_769))));
     Ok(())
@@ -345,14 +320,14 @@ fn greatest_deck(rt: HostRuntime) -> Result<(), Fail> {
 #[test]
 fn memory_is_not_refused(rt: HostRuntime) -> Result<(), Fail> {
     let alloc = rt.alloc();
-    let hundred = deck(alloc, &[(1, 131_072, 0); 100])?;
+    let hundred = deck(alloc, ONE_SNAPSHOT, &[LIGHT; 100])?;
     for (name, text) in [
         ("a hundred particles", hundred.as_str()),
         ("an empty text", ""),
         ("no TOML", "a = "),
         ("no deck", "a = 1"),
     ] {
-        let run = run_text(&rt, alloc, text)?;
+        let run = do_job(&rt, alloc, "run", text)?;
         assert!(rt; run.status != Status::NoMemory, "{name}");
     }
     Ok(())

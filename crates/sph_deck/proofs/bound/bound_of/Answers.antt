@@ -1,6 +1,6 @@
 use Rattle.std.proofs.Common.{◌≡◌, ◌∙◌, ◌≤◌, ◌*◌, ◌^◌, ◌%◌, ap, subst, sym, arith}
 use Rattle.sph_num.specs.Bound.{bounds_of, greatest_force}
-use Rattle.sph_num.proofs.Sums.{AreBoundsInRange}
+use Rattle.sph_num.specs.Ranges.{AreBoundsInRange}
 use Rattle.sph_num.proofs.Extremes.{AreBoundsInRange-bounds_of, bound_of-lt}
 use Rattle.std.proofs.Math.Nat.{pow-le-pow_right}
 use Rattle.sph_deck.proofs.bound.bound_of.Goals as goal

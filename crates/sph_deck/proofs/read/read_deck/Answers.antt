@@ -1,35 +1,10 @@
-use Rattle.std.proofs.Common.{arith}
-use Rattle.std.proofs.lemmas.Result.{err_from_is_err_and}
-use Rattle.toml.specs.View.{table_view}
-use Rattle.sph_deck.specs.Document.{IsDocument}
-use Rattle.sph_deck.proofs.Documents.{accepted_as, first_between, refused_table}
-use Rattle.sph_deck.proofs.InRange.{numbers_within}
-use Rattle.sph_deck.proofs.TextBound.{elements-le-length}
+use Rattle.sph_deck.proofs.FirstFaults.{accepted_answered, first_answered, first_too_long}
 use Rattle.sph_deck.proofs.read.read_deck.Goals as goal
 
-pub read_table-requires : goal.read_table-requires
-read_table-requires c =
-    let document : IsDocument c.args.bytes.now (table_view c.in-Ok.top) = record { utf8 = c.in-Ok.ensures.ok.0; parsed = c.in-Ok.ensures.ok.1 } in
-    omega (arith, elements-le-length c.args.bytes.now (table_view c.in-Ok.top) document)
+pub returns-then-bytes-gt-LONGEST_TEXT-clause-first : goal.returns-then-bytes-gt-LONGEST_TEXT-clause-first
+returns-then-bytes-gt-LONGEST_TEXT-clause-first c =
+    first_answered c.args.bytes.now _ (first_too_long c.args.bytes.now c.if-bytes-gt-LONGEST_TEXT.true)
 
-pub returns-in_err-params : goal.returns-in_err-params
-returns-in_err-params c =
-    let p = err_from_is_err_and c.from_residual.result c.from_residual.ensures.1 in
-    rw (p.1, p.2)
-    (refused_table c.args.bytes.now _ (record { utf8 = c.in-Ok.ensures.ok.0; parsed = c.in-Ok.ensures.ok.1 }) c.if-bytes-gt-LONGEST_TEXT.false _ c.in_err-params.ensures)
-
-pub accept-requires : goal.accept-requires
-accept-requires c =
-    let read = c.in_ok-params.ensures in
-    rw (read.params_are, read.particles_are) (numbers_within _ read.clean)
-
-pub returns-in_err-deck : goal.returns-in_err-deck
-returns-in_err-deck c =
-    let p = err_from_is_err_and c.from_residual-in_err-deck.result c.from_residual-in_err-deck.ensures.1 in
-    rw (p.1, p.2)
-    (first_between c.args.bytes.now _ (record { utf8 = c.in-Ok.ensures.ok.0; parsed = c.in-Ok.ensures.ok.1 }) c.if-bytes-gt-LONGEST_TEXT.false _ _ c.in_ok-params.ensures _ c.in_err-deck.ensures)
-
-pub returns : goal.returns
-returns c =
-    accepted_as c.args.bytes.now _ (record { utf8 = c.in-Ok.ensures.ok.0; parsed = c.in-Ok.ensures.ok.1 }) c.if-bytes-gt-LONGEST_TEXT.false _ _ c.in_ok-params.ensures c.in_ok-deck.deck c.in_ok-deck.ensures.0
-    c.in_ok-deck.ensures.1
+pub returns-then-bytes-gt-LONGEST_TEXT-clause-accepted : goal.returns-then-bytes-gt-LONGEST_TEXT-clause-accepted
+returns-then-bytes-gt-LONGEST_TEXT-clause-accepted c =
+    accepted_answered c.args.bytes.now _ (first_too_long c.args.bytes.now c.if-bytes-gt-LONGEST_TEXT.true)

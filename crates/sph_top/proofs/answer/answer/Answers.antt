@@ -3,7 +3,6 @@ use Rattle.sph_top.proofs.answer.answer.Goals as goal
 
 pub returns-in-Ok-clause-rests : goal.returns-in-Ok-clause-rests
 returns-in-Ok-clause-rests g c =
-    let job = c.names_run.ensures.0 c.if-not-names_run.false in
     let read = c.in-Ok.ensures in
-    Rests-follows c.args.words.now _ _ _ _ c.in-Ok.bytes.items _ c.run_deck.result job read.bytes read.cause c.deref.ensures.value
-    c.run_deck.ensures.follows
+    Rests-follows c.in-Some.job c.args.words.now _ _ _ _ c.in-Ok.bytes.items _ c.do_job.result c.in-Some.ensures read.bytes read.cause c.deref.ensures.value
+    c.do_job.ensures.follows

@@ -1,8 +1,8 @@
 use Rattle.std.proofs.Common.{ap}
-use Rattle.sph_top.specs.declared.status.Status.TheVariants.{DeckRefused, NotBuilt}
+use Rattle.sph_top.specs.declared.status.Status.TheVariants.{DeckRefused}
 use Rattle.sph_top.specs.Answers.{seen}
 use Rattle.sph_top.proofs.Reported.{done, yields, output_of_write_fault, line_of_write_fault, whole_run}
-use Rattle.sph_top.proofs.Rest.{NamesItsKey-rests, refused, unbuilt, run_whole}
+use Rattle.sph_top.proofs.Rest.{NamesItsKey-rests, refused, job_done}
 use Rattle.sph_top.proofs.answer.swiftq.Goals as goal
 
 pub report-requires : goal.report-requires
@@ -18,11 +18,6 @@ returns-clause-deck_refused_where g c job bytes has stayed fault first =
     yields c.answer-status.result c.report.result _ _ c.report.ensures.told (DeckRefused fault)
     (refused c.args.words.now _ _ _ _ job bytes has stayed c.answer-status.result c.answer-status.ensures.rests fault first)
 
-pub returns-clause-not_built_for_deck : goal.returns-clause-not_built_for_deck
-returns-clause-not_built_for_deck g c job bytes has stayed deck later =
-    yields c.answer-status.result c.report.result _ _ c.report.ensures.told NotBuilt
-    (unbuilt c.args.words.now _ _ _ _ job bytes has stayed c.answer-status.result c.answer-status.ensures.rests deck later)
-
 pub returns-clause-write_fault_output : goal.returns-clause-write_fault_output
 returns-clause-write_fault_output g c =
     output_of_write_fault c.answer-status.result c.report.result _ _ c.report.ensures.told c.args.words.now _ _ _ _ c.answer-status.ensures.rests
@@ -34,6 +29,6 @@ returns-clause-error_line_of_write_fault g c =
     (λ w. ap (seen g.O.Sink.held g.O.Sink.faults) (c.answer-status.ensures.untouched w))
 
 pub returns-clause-complete : goal.returns-clause-complete
-returns-clause-complete g c job bytes has deck first stayed kept quiet =
+returns-clause-complete g c job bytes has deck accepted stayed kept quiet =
     whole_run c.answer-status.result c.report.result _ _ c.report.ensures.told quiet
-    (run_whole c.args.words.now _ _ _ _ job bytes has stayed c.answer-status.result c.answer-status.ensures.rests deck first kept)
+    (job_done c.args.words.now _ _ _ _ job bytes has stayed c.answer-status.result c.answer-status.ensures.rests deck accepted kept)

@@ -1,0 +1,4 @@
+pub mod Room
+pub mod BinOf
+pub mod Steps
+pub mod Narrow

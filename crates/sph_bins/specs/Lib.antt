@@ -1,0 +1,4 @@
+pub mod Bins
+pub mod InBounds
+pub mod Kick
+pub mod Laws

@@ -1,0 +1,6 @@
+pub mod Mapped
+pub mod Passes
+pub mod Runs
+pub mod Soundness
+pub mod Totals
+pub mod Vectors

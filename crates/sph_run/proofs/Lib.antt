@@ -1,0 +1,5 @@
+pub mod Ticks
+pub mod Pieces
+pub mod Streams
+pub mod Rows
+pub mod Whole

@@ -1,0 +1,14 @@
+pub mod Bytes
+pub mod Codes
+pub mod Differ
+pub mod FieldsRead
+pub mod Fit
+pub mod NoFault
+pub mod Numerals
+pub mod Pieces
+pub mod ReadBack
+pub mod RowsRead
+pub mod SnapshotsRead
+pub mod Spelled
+pub mod StreamsRead
+pub mod Written
