@@ -12,8 +12,9 @@ use sph_deck::Deck;
 use sph_num::{Particle, Tables, ghost_of, position};
 use std::alloc::{AllocError, Global};
 
-/// One step at tick `t`: the due particles are given their densities, ghosts, forces and kicks, in order
-/// of the list. It takes about 32 bytes a particle, before the first is changed.
+/// One step at tick `t`: the due particles are given their densities, ghosts, forces and kicks by sums
+/// over all pairs. All memory, 32 bytes a particle and the kernel's tables, is taken before the first
+/// particle is changed.
 pub fn plain_step(
     alloc: Global,
     deck: &Deck,

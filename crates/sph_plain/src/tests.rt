@@ -1,4 +1,4 @@
-//! Worked decks of two particles on the x axis, step by step.
+//! Worked decks of particles on the x axis, step by step.
 ghost use Rattle.std.specs.Prelude.{◌≡◌, ◌+◌, ◌≤◌, OnOk};
 ghost use Rattle.sph_plain.specs.Run.{before};
 
@@ -12,7 +12,7 @@ use std::test::Fail;
 const TOP: &str = "bin_min = 0\nsound = 65536\nleaf = 16\npairs = 4096\nslack = 0\n";
 
 /// The rest of a particle on the x axis.
-const ON_X: &str = "h = 1024\ny = 0\nz = 0\npy = 0\npz = 0\n";
+const ON_X: &str = "y = 0\nz = 0\npy = 0\npz = 0\n";
 
 /// Steps of one tick, however strong the force.
 const ONE_BIN: &str = "every = 1\nbin_max = 0\nshift = 20\naccuracy = 0\n";
@@ -41,16 +41,18 @@ fn on_x(particle: &Particle) -> Left {
     }
 }
 
-/// A deck of two particles, each by its mass, its x and its px.
+/// A deck of particles on the x axis, each by its mass, its smoothing length, its x and its px.
 fn deck(
     alloc: Global,
     ticks: u32,
     numbers: &str,
-    pair: [(u32, u32, i64); 2],
+    bodies: &[(u32, u32, u32, i64)],
 ) -> Result<Deck, Fail> {
     let mut text = format!(in alloc; "ticks = {ticks}\n{TOP}{numbers}")?;
-    for (mass, x, px) in pair {
-        let row = format!(in alloc; "[[particle]]\nmass = {mass}\nx = {x}\npx = {px}\n{ON_X}")?;
+    for (mass, h, x, px) in bodies {
+        let row = format!(in alloc;
+            "[[particle]]\nmass = {mass}\nh = {h}\nx = {x}\npx = {px}\n{ON_X}"
+        )?;
         text.push_str(row.as_str())?;
     }
     Ok(read_deck(alloc, text.as_bytes()).ok().ok_or("refused")?)
@@ -67,7 +69,7 @@ fn step(alloc: Global, deck: &Deck, particles: &mut Vec<Particle>, t: u32) -> Re
     plain_step(alloc, deck, particles, t)
 }
 
-/// What each step of the deck leaves of the two, one after another.
+/// What each step of the deck leaves of the particles, one after another.
 fn steps(alloc: Global, deck: &Deck) -> Result<Vec<Left>, AllocError>
     requires { deck.now.params.bin_min ≡ 0 }
 {
@@ -120,7 +122,7 @@ fn pushes_a_pair_apart(rt: HostRuntime) -> Result<(), Fail> {
             rt.alloc(),
             ticks,
             ONE_BIN,
-            [(1024, 1000, 0), (1024, 1512, 0)],
+            &[(1024, 1024, 1000, 0), (1024, 1024, 1512, 0)],
         )?;
         assert!(rt; deck.params.bin_min == 0);
         let rows = steps(rt.alloc(), &deck)?;
@@ -132,8 +134,8 @@ fn pushes_a_pair_apart(rt: HostRuntime) -> Result<(), Fail> {
 #[test]
 fn kicks_only_who_is_due(rt: HostRuntime) -> Result<(), Fail> {
     let numbers = "every = 2\nbin_max = 1\nshift = 22\naccuracy = 1200000\n";
-    let pair = [(1024, 1512, 0), (4096, 1000, 2_423_921_688_576)];
-    let deck = deck(rt.alloc(), 2, numbers, pair)?;
+    let pair = [(1024, 1024, 1512, 0), (4096, 1024, 1000, 2_423_921_688_576)];
+    let deck = deck(rt.alloc(), 2, numbers, &pair)?;
     assert!(rt; deck.params.bin_min == 0);
     let light = Left {
         x: 1512,
@@ -183,5 +185,92 @@ fn kicks_only_who_is_due(rt: HostRuntime) -> Result<(), Fail> {
     let want = [light, heavy, light_kicked, heavy, light_alone, heavy_alone];
     let rows = steps(rt.alloc(), &deck)?;
     assert_eq!(rt; rows.as_slice(), want.as_slice());
+    Ok(())
+}
+
+/// A particle of mass 1024 at rest at tick 0, by its x, its density, its ghost and the force on it.
+const fn pressed(x: u32, rho: u64, g: u64, f: i128) -> Left {
+    Left {
+        x,
+        rho,
+        g,
+        f,
+        q: 0,
+        p: f,
+        bin: 0,
+    }
+}
+
+#[test]
+fn presses_by_distance_and_length(rt: HostRuntime) -> Result<(), Fail> {
+    let alone = 43_748_163_584;
+    let near = 54_685_204_480;
+    let cases = [
+        (
+            "across the face",
+            [(1024, 1024, 1_048_320, 0), (1024, 1024, 256, 0)],
+            [
+                pressed(1_048_320, near, 1286, -659_298_496_512),
+                pressed(256, near, 1286, 659_298_496_512),
+            ],
+        ),
+        (
+            "at exact reach",
+            [(1024, 1024, 1000, 0), (1024, 1024, 2024, 0)],
+            [pressed(1000, alone, 1608, 0), pressed(2024, alone, 1608, 0)],
+        ),
+        (
+            "within one length",
+            [(1024, 1024, 1000, 0), (1024, 2048, 2024, 0)],
+            [
+                pressed(1000, alone, 1608, -164_920_750_080),
+                pressed(2024, 6_835_650_560, 10_294, 164_920_750_080),
+            ],
+        ),
+    ];
+    for (name, bodies, want) in cases {
+        let deck = deck(rt.alloc(), 0, ONE_BIN, &bodies)?;
+        assert!(rt; deck.params.bin_min == 0);
+        let rows = steps(rt.alloc(), &deck)?;
+        assert_eq!(rt; rows.as_slice(), want.as_slice(), "{name}");
+    }
+    let one = deck(rt.alloc(), 0, ONE_BIN, &[(1024, 1024, 0, 0)])?;
+    assert!(rt; one.params.bin_min == 0);
+    let rows = steps(rt.alloc(), &one)?;
+    assert_eq!(rt; rows.as_slice(), [pressed(0, alone, 1608, 0)].as_slice());
+    Ok(())
+}
+
+#[test]
+fn kicks_the_light_one_at_each_tick(rt: HostRuntime) -> Result<(), Fail> {
+    let numbers = "every = 8\nbin_max = 3\nshift = 60\naccuracy = 1861822\n";
+    let pair = [
+        (1024, 1024, 1512, 0),
+        (65_536, 1024, 1000, 17_592_186_044_416),
+    ];
+    let deck = deck(rt.alloc(), 8, numbers, &pair)?;
+    assert!(rt; deck.params.bin_min == 0);
+    let light = pressed(1512, 743_718_780_928, 94, 1_952_261_799_936);
+    let heavy = Left {
+        x: 1000,
+        rho: 2_810_819_510_272,
+        g: 25,
+        f: -1_952_261_799_936,
+        q: 17_592_186_044_416,
+        p: 1_974_091_644_928,
+        bin: 3,
+    };
+    let rows = steps(rt.alloc(), &deck)?;
+    assert_eq!(rt; rows.len(), 18);
+    assert!(rt; rows.first() == Some(&light));
+    for t in 0..8usize {
+        assert!(rt; rows.get(2 * t + 1) == Some(&heavy), "at {t}");
+    }
+    let light_last = rows.get(16).ok_or("light")?;
+    assert_eq!(rt; light_last.q, 31_236_188_798_976);
+    assert_eq!(rt; light_last.bin, 0);
+    let heavy_last = rows.get(17).ok_or("heavy")?;
+    assert_eq!(rt; heavy_last.q, -13_644_002_754_560);
+    assert_eq!(rt; heavy_last.bin, 3);
     Ok(())
 }

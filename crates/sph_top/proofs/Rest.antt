@@ -6,7 +6,7 @@ use Rattle.std.specs.Io.KnownBytes.{Appends, Consumes, IsAtEnd}
 use Rattle.std.proofs.KnownBytes.{Appends-nil}
 use Rattle.sph_deck.specs.declared.deck.Deck.{Deck}
 use Rattle.sph_deck.specs.declared.fault.DeckFault.{DeckFault}
-use Rattle.sph_deck.specs.Faults.{longest_text}
+use Rattle.sph_deck.specs.Faults.{IsAccepted, longest_text}
 use Rattle.sph_deck.specs.FirstFault.{IsFirstFault}
 use Rattle.sph_report.specs.DeckLines.{NamesKey}
 use Rattle.sph_edge.specs.Bytes.{GaveAll}
@@ -125,11 +125,11 @@ module _ (words : List (String Global)) (source source' out out' : Seen) (job : 
   refused NoMemory rests fault first = inr refl
 
   -- the job is done on an accepted deck, where no write failed
-  pub job_done : (status : Status) → Rests status words source source' out out' → (deck : Deck) → IsAcceptedDeck bytes deck
+  pub job_done : (status : Status) → Rests status words source source' out out' → IsAccepted bytes
       → Stayed out.faults out'.faults → (status ≡ Done) ⊎ (status ≡ NoMemory)
-  job_done Done rests deck accepted kept = inl refl
-  job_done (DeckRefused fault) rests deck accepted kept = absurd (accepted.accepted fault (fault_of fault rests).stands)
-  job_done NotBuilt rests deck accepted kept = absurd (named_not_none words job rests)
-  job_done ReadFault rests deck accepted kept = absurd (stayed_not_rose source.faults source'.faults stayed rests.1)
-  job_done WriteFault rests deck accepted kept = absurd (stayed_not_rose out.faults out'.faults kept rests.3.0)
-  job_done NoMemory rests deck accepted kept = inr refl
+  job_done Done rests accepted kept = inl refl
+  job_done (DeckRefused fault) rests accepted kept = absurd (accepted fault (fault_of fault rests).stands)
+  job_done NotBuilt rests accepted kept = absurd (named_not_none words job rests)
+  job_done ReadFault rests accepted kept = absurd (stayed_not_rose source.faults source'.faults stayed rests.1)
+  job_done WriteFault rests accepted kept = absurd (stayed_not_rose out.faults out'.faults kept rests.3.0)
+  job_done NoMemory rests accepted kept = inr refl

@@ -1,11 +1,11 @@
 //! The top call.
 ghost use Rattle.std.specs.Prelude.{◌≡◌, ◌<◌, ◌≤◌, ◌⊎◌, List, ℕ, length, Some};
 ghost use Rattle.std.specs.Io.KnownBytes.{Appends};
+ghost use Rattle.sph_deck.specs.Faults.{IsAccepted};
 ghost use Rattle.sph_deck.specs.FirstFault.{IsFirstFault};
-ghost use Rattle.sph_deck.specs.declared.deck.Deck.{Deck};
 ghost use Rattle.sph_deck.specs.declared.fault.DeckFault.{DeckFault};
 ghost use Rattle.sph_edge.specs.Causes.{Rose, Stayed};
-ghost use Rattle.sph_top.specs.Answers.{seen, IsAcceptedDeck, IsDone, IsDeckRefused, AppendsSome, AppendsToAnEnd, IsWithoutOutput, TellsWriteFault, Yields};
+ghost use Rattle.sph_top.specs.Answers.{seen, IsDone, IsDeckRefused, AppendsSome, AppendsToAnEnd, IsWithoutOutput, TellsWriteFault, Yields};
 ghost use Rattle.sph_top.specs.Lines.{error_line};
 ghost use Rattle.sph_top.specs.Steps.{Rests};
 ghost use Rattle.sph_top.specs.Words.{NamesAJob, NamesNone};
@@ -66,7 +66,7 @@ pub fn swiftq<R: Threads + Sync, S: Source, O: Sink, E: Sink, G: Gate>(
         (seen E.held E.faults err.old) (seen E.held E.faults err.new) }
 
     // A named job, an accepted deck and no fault give Done, unless memory runs out.
-    ensures complete { NamesAJob words.now → (bytes : List ℕ) → S.left source.old ≡ Some bytes → (deck : Deck) → IsAcceptedDeck bytes deck
+    ensures complete { NamesAJob words.now → (bytes : List ℕ) → S.left source.old ≡ Some bytes → IsAccepted bytes
         → Stayed (S.faults source.old) (S.faults source.new) → Stayed (O.faults out.old) (O.faults out.new)
         → Stayed (E.faults err.old) (E.faults err.new) → (result ≡ Status.Done) ⊎ (result ≡ Status.NoMemory) }
 {

@@ -1,5 +1,5 @@
 //! Whole runs of worked decks: their snapshots, read back from the stream.
-use crate::tests::{Body, ONE_SNAPSHOT, Top, deck, do_job};
+use crate::tests::{Body, LIGHT, ONE_SNAPSHOT, Top, deck, do_job};
 use sph_snap::{Snapshot, read_stream};
 use sph_top::Status;
 use std::alloc::Global;
@@ -8,12 +8,13 @@ use std::test::Fail;
 /// A row of a snapshot: x, the momentum on x, the density, the bin.
 type Row = (u32, i128, u64, u32);
 
-/// A deck, and the ticks and rows of its first and its last snapshot.
+/// A deck, how many snapshots it has, and the rows of its first and of its last one, with that one's tick.
 #[derive(Clone, Copy)]
 struct Worked {
     name: &'static str,
     top: Top,
     bodies: [Body; 2],
+    snapshots: usize,
     first: [Row; 2],
     last: (u32, [Row; 2]),
 }
@@ -38,6 +39,7 @@ const HALF_REACH: Worked = Worked {
         ..ONE_SNAPSHOT
     },
     bodies: [Body { x: 1_000, ..REST }, Body { x: 1_512, ..REST }],
+    snapshots: 2,
     first: [(1_000, 0, PAIR, 0), (1_512, 0, PAIR, 0)],
     last: (
         1,
@@ -58,6 +60,7 @@ const ACROSS_THE_FACE: Worked = Worked {
         },
         Body { x: 256, ..REST },
     ],
+    snapshots: 1,
     first: [(1_048_320, 0, PAIR, 0), (256, 0, PAIR, 0)],
     last: (0, [(1_048_320, 0, PAIR, 0), (256, 0, PAIR, 0)]),
 };
@@ -66,6 +69,7 @@ const EXACT_REACH: Worked = Worked {
     name: "a pair at exact reach",
     top: ONE_SNAPSHOT,
     bodies: [Body { x: 1_000, ..REST }, Body { x: 2_024, ..REST }],
+    snapshots: 1,
     first: [(1_000, 0, ALONE, 0), (2_024, 0, ALONE, 0)],
     last: (0, [(1_000, 0, ALONE, 0), (2_024, 0, ALONE, 0)]),
 };
@@ -81,6 +85,7 @@ const TWO_LENGTHS: Worked = Worked {
             ..REST
         },
     ],
+    snapshots: 1,
     first: [(1_000, 0, ALONE, 0), (2_024, 0, 6_835_650_560, 0)],
     last: (0, [(1_000, 0, ALONE, 0), (2_024, 0, 6_835_650_560, 0)]),
 };
@@ -104,6 +109,7 @@ const TWO_BINS: Worked = Worked {
             ..REST
         },
     ],
+    snapshots: 2,
     first: [
         (1_512, 0, 743_718_780_928, 0),
         (1_000, 17_592_186_044_416, 2_810_819_510_272, 3),
@@ -136,6 +142,7 @@ const KEPT_GHOST: Worked = Worked {
             ..REST
         },
     ],
+    snapshots: 2,
     first: [
         (1_512, 0, 87_496_327_168, 0),
         (1_000, 2_423_921_688_576, 185_929_695_232, 1),
@@ -145,6 +152,29 @@ const KEPT_GHOST: Worked = Worked {
         [
             (2_254, 1_976_930_689_336, ALONE, 1),
             (1_000, 0, 174_992_654_336, 1),
+        ],
+    ),
+};
+
+/// The pair at half reach in steps of two ticks, at half the speed: the same moves, and twice the momenta.
+const STEPS_OF_TWO: Worked = Worked {
+    name: "steps of two ticks",
+    top: Top {
+        ticks: 2,
+        every: 2,
+        bin_min: 1,
+        bin_max: 1,
+        shift: 22,
+        ..ONE_SNAPSHOT
+    },
+    bodies: [Body { x: 1_000, ..REST }, Body { x: 1_512, ..REST }],
+    snapshots: 2,
+    first: [(1_000, 0, PAIR, 1), (1_512, 0, PAIR, 1)],
+    last: (
+        2,
+        [
+            (385, -1_318_596_993_024, ALONE, 1),
+            (2_126, 1_318_596_993_024, ALONE, 1),
         ],
     ),
 };
@@ -173,6 +203,7 @@ fn worked_decks(rt: HostRuntime) -> Result<(), Fail> {
         TWO_LENGTHS,
         TWO_BINS,
         KEPT_GHOST,
+        STEPS_OF_TWO,
     ] {
         let name = worked.name;
         let text = deck(alloc, worked.top, &worked.bodies)?;
@@ -180,6 +211,7 @@ fn worked_decks(rt: HostRuntime) -> Result<(), Fail> {
         assert_eq!(rt; run.status, Status::Done, "{name}");
         assert!(rt; run.err.held().is_empty(), "{name}");
         let read = snapshots(alloc, run.out.held())?;
+        assert_eq!(rt; read.len(), worked.snapshots, "{name}");
         let first = read.first().ok_or("no snapshot")?;
         let last = read.last().ok_or("no snapshot")?;
         assert!(rt; is_as_worked(first, 0, &worked.first), "first of {name}");
@@ -207,7 +239,7 @@ fn streams_have_their_lengths(rt: HostRuntime) -> Result<(), Fail> {
         bin_max: 2,
         ..ONE_SNAPSHOT
     };
-    let one = deck(alloc, top, &[REST])?;
+    let one = deck(alloc, top, &[LIGHT])?;
     let run = do_job(&rt, alloc, "run", one.as_str())?;
     assert_eq!(rt; run.status, Status::Done);
     assert_eq!(rt; snapshots(alloc, run.out.held())?.len(), 1);
@@ -217,12 +249,7 @@ fn streams_have_their_lengths(rt: HostRuntime) -> Result<(), Fail> {
 #[test]
 fn forty_at_one_point(rt: HostRuntime) -> Result<(), Fail> {
     let alloc = rt.alloc();
-    let light = Body {
-        mass: 1,
-        h: 131_072,
-        ..REST
-    };
-    let text = deck(alloc, ONE_SNAPSHOT, &[light; 40])?;
+    let text = deck(alloc, ONE_SNAPSHOT, &[LIGHT; 40])?;
     let run = do_job(&rt, alloc, "run", text.as_str())?;
     assert_eq!(rt; run.status, Status::Done);
     let read = snapshots(alloc, run.out.held())?;

@@ -13,6 +13,7 @@ use std::thread::Threads;
 pub(crate) struct Top {
     pub ticks: u32,
     pub every: u32,
+    pub bin_min: u32,
     pub bin_max: u32,
     pub shift: u32,
     pub accuracy: u32,
@@ -22,6 +23,7 @@ pub(crate) struct Top {
 pub(crate) const ONE_SNAPSHOT: Top = Top {
     ticks: 0,
     every: 1,
+    bin_min: 0,
     bin_max: 0,
     shift: 20,
     accuracy: 0,
@@ -48,7 +50,7 @@ pub(crate) struct Body {
 }
 
 /// The light particle of the one-particle stream.
-const LIGHT: Body = Body {
+pub(crate) const LIGHT: Body = Body {
     mass: 1,
     h: 131_072,
     x: 0,
@@ -69,12 +71,13 @@ pub(crate) fn deck(alloc: Global, top: Top, bodies: &[Body]) -> Result<String, A
     let Top {
         ticks,
         every,
+        bin_min,
         bin_max,
         shift,
         accuracy,
     } = top;
     let bins = format!(in alloc;
-        "ticks = {ticks}\nevery = {every}\nbin_min = 0\nbin_max = {bin_max}\n"
+        "ticks = {ticks}\nevery = {every}\nbin_min = {bin_min}\nbin_max = {bin_max}\n"
     )?;
     let mut text = format!(in alloc;
         "{bins}sound = 65536\nshift = {shift}\naccuracy = {accuracy}\nleaf = 16\npairs = 4096\nslack = 0\n"

@@ -29,6 +29,6 @@ returns-clause-error_line_of_write_fault g c =
     (λ w. ap (seen g.O.Sink.held g.O.Sink.faults) (c.answer-status.ensures.untouched w))
 
 pub returns-clause-complete : goal.returns-clause-complete
-returns-clause-complete g c job bytes has deck accepted stayed kept quiet =
+returns-clause-complete g c job bytes has accepted stayed kept quiet =
     whole_run c.answer-status.result c.report.result _ _ c.report.ensures.told quiet
-    (job_done c.args.words.now _ _ _ _ job bytes has stayed c.answer-status.result c.answer-status.ensures.rests deck accepted kept)
+    (job_done c.args.words.now _ _ _ _ job bytes has stayed c.answer-status.result c.answer-status.ensures.rests accepted kept)
