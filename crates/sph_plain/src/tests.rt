@@ -228,8 +228,8 @@ fn presses_by_distance_and_length(rt: HostRuntime) -> Result<(), Fail> {
             ],
         ),
     ];
-    for (name, bodies, want) in cases {
-        let deck = deck(rt.alloc(), 0, ONE_BIN, &bodies)?;
+    for (name, [first, second], want) in cases {
+        let deck = deck(rt.alloc(), 0, ONE_BIN, &[first, second])?;
         assert!(rt; deck.params.bin_min == 0);
         let rows = steps(rt.alloc(), &deck)?;
         assert_eq!(rt; rows.as_slice(), want.as_slice(), "{name}");
