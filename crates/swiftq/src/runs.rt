@@ -96,6 +96,7 @@ const TWO_BINS: Worked = Worked {
     top: Top {
         ticks: 8,
         every: 8,
+        bin_min: 0,
         bin_max: 3,
         shift: 60,
         accuracy: 1_861_822,
@@ -129,6 +130,7 @@ const KEPT_GHOST: Worked = Worked {
     top: Top {
         ticks: 2,
         every: 2,
+        bin_min: 0,
         bin_max: 1,
         shift: 22,
         accuracy: 1_200_000,
