@@ -1,0 +1,103 @@
+-- The spans of a tree: found by looks at one cell and at two, from the whole box down.
+use Rattle.std.specs.Prelude.{ℕ, zero, suc, ◌+◌, ◌*◌, ◌/◌, Bool, true, false, not, ◌&&◌, ◌||◌, ◌==◌, nat_le, nat_lt, if◌then◌else◌, List, [], ◌∷◌, ◌++◌, map, filter, flat_map, length, slice_index, get_or, max, Option, Some, None}
+use Rattle.std.specs.List.{list_any}
+use Rattle.sph_num.specs.Bound.{least_of}
+use Rattle.cell_geom.specs.declared.cube.Cube.{Cube}
+use Rattle.cell_geom.specs.Cube.{side_of}
+use Rattle.cell_geom.specs.Gap.{apart, slackened}
+use Rattle.cell_tree.specs.declared.tree.Span.{Span}
+use Rattle.cell_tree.specs.Tree.{Made, cell_at, cells_of, is_leaf, numbers_from, reach_of}
+use Rattle.pair_cover.specs.declared.spans.Limits.{Limits}
+
+-- the one cube is a half of the other's side and lies in it
+abbrev pub is_octant_of : Cube → Cube → Bool
+is_octant_of outer inner =
+    (inner.level == suc outer.level)
+    && (slice_index inner.at 0 / 2 == slice_index outer.at 0)
+    && (slice_index inner.at 1 / 2 == slice_index outer.at 1)
+    && (slice_index inner.at 2 / 2 == slice_index outer.at 2)
+
+-- the children of a cell, in the order of their numbers
+unfoldable pub children_of : Made → ℕ → List ℕ
+children_of made cell = filter (λ child. is_octant_of (cell_at made cell).cube (cell_at made child).cube) (numbers_from 0 (length (cells_of made)))
+
+-- the coordinates of a cube on an axis
+abbrev pub coordinates : Cube → ℕ → List ℕ
+coordinates cube axis = numbers_from (slice_index cube.at axis * side_of cube.level) (side_of cube.level)
+
+-- the least distance on an axis of a coordinate of the one cube from one of the other
+unfoldable pub axis_gap_of : Cube → Cube → ℕ → ℕ
+axis_gap_of a b axis = least_of (flat_map (λ x. map (λ y. apart x y) (coordinates b axis)) (coordinates a axis))
+
+-- the square of the gap of two cubes, each of whose points may have moved by the slack
+abbrev pub gap2_of : Cube → Cube → ℕ → ℕ
+gap2_of a b slack =
+    slackened (axis_gap_of a b 0) slack + slackened (axis_gap_of a b 1) slack + slackened (axis_gap_of a b 2) slack
+
+-- some member of the cell is due
+abbrev pub has_due : Made → List Bool → ℕ → Bool
+has_due made due cell = list_any (λ i. get_or due i false) (cell_at made cell).members
+
+abbrev pub count_of : Made → ℕ → ℕ
+count_of made cell = length (cell_at made cell).members
+
+abbrev pub is_leaf_cell : Made → ℕ → Bool
+is_leaf_cell made cell = is_leaf made (cell_at made cell)
+
+-- the greater reach of two cells
+abbrev pub reach_of_two : Made → ℕ → ℕ → ℕ
+reach_of_two made a b = max (reach_of made (cell_at made a)) (reach_of made (cell_at made b))
+
+-- a look at two cells drops them: none of their members is due, or no two of them can come into reach
+abbrev pub drops : Made → List Bool → Limits → ℕ → ℕ → Bool
+drops made due limits a b =
+    not (has_due made due a || has_due made due b)
+    || nat_le (reach_of_two made a b * reach_of_two made a b) (gap2_of (cell_at made a).cube (cell_at made b).cube limits.slack)
+
+-- it gives their span: both are leaves, or they have few pairs
+abbrev pub stops : Made → Limits → ℕ → ℕ → Bool
+stops made limits a b = (is_leaf_cell made a && is_leaf_cell made b) || nat_le (count_of made a * count_of made b) limits.pairs
+
+-- else it splits the first: the one that is no leaf, of the level with the smaller number, with the greater count, the first one
+abbrev pub splits_first : Made → ℕ → ℕ → Bool
+splits_first made a b =
+    if is_leaf_cell made a then false
+    else if is_leaf_cell made b then true
+    else if (cell_at made a).cube.level == (cell_at made b).cube.level then nat_le (count_of made b) (count_of made a)
+    else nat_lt (cell_at made a).cube.level (cell_at made b).cube.level
+
+abbrev pub span_of : ℕ → Option ℕ → Span
+span_of first second = record { first = first; second = second }
+
+-- the spans of a look at two cells, with so many looks below it
+unfoldable pub pair_spans : Made → List Bool → Limits → ℕ → ℕ → ℕ → List Span
+pair_spans made due limits zero a b = []
+pair_spans made due limits (suc looks) a b =
+    if drops made due limits a b then []
+    else if stops made limits a b then span_of a (Some b) ∷ []
+    else if splits_first made a b then flat_map (λ child. pair_spans made due limits looks child b) (children_of made a)
+    else flat_map (λ child. pair_spans made due limits looks a child) (children_of made b)
+
+-- each two of a list, in the order of the first and then of the second
+abbrev pub twos : List ℕ → List (ℕ × ℕ)
+twos [] = []
+twos (x ∷ xs) = map (λ y. (x, y)) xs ++ twos xs
+
+-- two cells are split no more than twenty times, and one no more than ten
+abbrev pub most_looks : ℕ
+most_looks = 21
+
+-- the spans of a look at one cell: it drops the cell where no member is due, gives its span where it is a leaf or has few pairs, and
+-- else looks at each child and then at each two of them
+unfoldable pub self_spans : Made → List Bool → Limits → ℕ → ℕ → List Span
+self_spans made due limits zero cell = []
+self_spans made due limits (suc looks) cell =
+    if not (has_due made due cell) then []
+    else if is_leaf_cell made cell || nat_le (count_of made cell * count_of made cell) limits.pairs then span_of cell None ∷ []
+    else
+    flat_map (self_spans made due limits looks) (children_of made cell)
+    ++ flat_map (λ two. pair_spans made due limits most_looks two.0 two.1) (twos (children_of made cell))
+
+-- the spans of a tree
+abbrev pub spans_of : Made → List Bool → Limits → List Span
+spans_of made due limits = self_spans made due limits most_looks 0
