@@ -1,0 +1,72 @@
+-- Lists copied one element after another, and the opening state made of such lists.
+use Rattle.std.proofs.Common.{◌≡◌, ℕ, zero, suc, ◌+◌, ◌<◌, ◌≤◌, ◌^◌, List, [], ◌∷◌, ◌++◌, length, get_or, take, map, replicate, slice_get, Option, None, refl, sym, ap, ap₂, subst, ◌∙◌, arith, append_assoc}
+use Rattle.std.specs.List.{range_with_len}
+use Rattle.std.proofs.lemmas.List.{take_more, take_all, length-replicate, replicate-append-replicate}
+use Rattle.std.proofs.lemmas.List.FromFn.{map-range_with_len_more}
+use Rattle.qs_core.specs.declared.event.Note.{Note}
+use Rattle.qs_core.specs.Shape.{Shape, IsShape, TaskShape, edges_into, or_else}
+use Rattle.qs_core.specs.Core.{View, empty_view, opening}
+use Rattle.qs_core.specs.Machine.{IsMachine, made}
+use Rattle.qs_core.specs.Listed.{shape_of}
+use Rattle.qs_core.specs.States.{machine_of}
+use Rattle.qs_core.proofs.Opening.{opening_is_sound}
+
+-- an element, or else a default
+pub or_else-get_or : {X : Type 0} (d : X) (xs : List X) (i : ℕ) → or_else d (slice_get xs i) ≡ get_or xs i d
+or_else-get_or d [] i = refl
+or_else-get_or d (x ∷ xs) zero = refl
+or_else-get_or d (x ∷ xs) (suc i) = or_else-get_or d xs i
+
+-- one more element, and all
+pub copied_more : {X : Type 0} (d : X) (xs items new : List X) (i : ℕ) (x : X) → i < length xs → x ≡ or_else d (slice_get xs i) → new ≡ items ++ x ∷ [] → items ≡ take i xs
+    → new ≡ take (i + 1) xs
+copied_more d xs items new i x l e n is =
+    let same = e ∙ or_else-get_or d xs i in
+    n ∙ ap₂ (λ a b. a ++ b ∷ []) is same ∙ sym (take_more xs i d l)
+
+pub copied_all : {X : Type 0} (xs items : List X) (i : ℕ) → length xs ≤ i → items ≡ take i xs → items ≡ xs
+copied_all xs items i l is = is ∙ take_all i xs l
+
+append-nil : {X : Type 0} (xs : List X) → xs ++ [] ≡ xs
+append-nil [] = refl
+append-nil {X} (x ∷ xs) = ap (λ (ys : List X). x ∷ ys) (append-nil xs)
+
+-- the words of the cells, of the leaves and of the first tasks
+abbrev pub words_to : Shape → ℕ → List ℕ
+words_to shape n = 0 ∷ replicate (length shape.parents) 0 ++ replicate shape.leaves 0 ++ map (edges_into shape) (range_with_len 0 n)
+
+pub words_none : (shape : Shape) (count : ℕ) (items : List ℕ) → count ≡ 1 + length shape.parents + shape.leaves → items ≡ replicate count 0 → items ≡ words_to shape 0
+words_none shape count items c e =
+    let n : count ≡ suc (length shape.parents) + shape.leaves = omega arith in
+    e ∙ ap (λ k. replicate k 0) n ∙ sym (replicate-append-replicate (suc (length shape.parents)) shape.leaves 0)
+    ∙ sym (append-nil (0 ∷ replicate (length shape.parents) 0 ++ replicate shape.leaves 0))
+
+pub words_more : (shape : Shape) (task waits : ℕ) (items new : List ℕ) → waits ≡ edges_into shape task → new ≡ items ++ waits ∷ [] → items ≡ words_to shape task → new ≡ words_to shape (task + 1)
+words_more shape task waits items new w n is =
+    let front : List ℕ = 0 ∷ replicate (length shape.parents) 0 ++ replicate shape.leaves 0 in
+    let z : 0 + task ≡ task = omega arith in
+    n ∙ ap₂ (λ a b. a ++ b ∷ []) is w ∙ append_assoc front (map (edges_into shape) (range_with_len 0 task)) (edges_into shape task ∷ [])
+    ∙ ap (λ xs. front ++ xs) (sym (map-range_with_len_more (edges_into shape) 0 task task z))
+
+-- the opening state of the machine
+pub made_is : (shape : Shape) (seats : ℕ) → IsShape shape → seats < 2 ^ 32 → IsMachine (made shape seats)
+made_is shape seats is l = record {
+  shape = is;
+  sound = opening_is_sound shape seats is;
+  one_note_each = length-replicate seats None ∙ sym (length-replicate seats empty_view);
+  few = subst (λ n. n < 2 ^ 32) (sym (length-replicate seats empty_view)) l;
+}
+
+pub made_of_lists : (shape layout : Shape) (seats : ℕ) (words : List ℕ) (views : List View) (notes : List (Option Note)) → layout ≡ shape → words ≡ (opening shape seats).words
+    → views ≡ replicate seats empty_view → notes ≡ replicate seats None → machine_of layout words views notes ≡ made shape seats
+made_of_lists shape layout seats words views notes l w v n = λ i. machine_of (l i) (w i) (v i) (n i)
+
+-- a task by its fields
+pub task_by_fields : (t : TaskShape) (first : ℕ) (second : Option ℕ) (successors : List ℕ) (weight : ℕ) → first ≡ t.first → second ≡ t.second → successors ≡ t.successors → weight ≡ t.weight
+    → record { first = first; second = second; successors = successors; weight = weight } ≡ t
+task_by_fields t first second successors weight f s u w = λ i. record { first = f i; second = s i; successors = u i; weight = w i }
+
+-- the laws of the lists
+pub listed_is : (shape : Shape) (parents : List (Option ℕ)) (ranges : List (ℕ × ℕ)) (leaves : ℕ) (tasks : List TaskShape) → parents ≡ shape.parents → ranges ≡ shape.ranges → leaves ≡ shape.leaves
+    → tasks ≡ shape.tasks → IsShape shape → IsShape (shape_of parents ranges leaves tasks)
+listed_is shape parents ranges leaves tasks p r l t is = let e : shape_of parents ranges leaves tasks ≡ shape = λ i. shape_of (p i) (r i) (l i) (t i) in subst IsShape (sym e) is

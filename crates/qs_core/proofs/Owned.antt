@@ -1,0 +1,57 @@
+-- Which cells a view owns, by its chains.
+use Rattle.std.proofs.Common.{◌≡◌, ◌⊎◌, ◌↔◌, ℕ, List, [], ◌∷◌, Contains, Option, Some, None, sym, inl, inr, subst}
+use Rattle.std.proofs.lemmas.Option.{none-some}
+use Rattle.qs_core.specs.Shape.{Shape}
+use Rattle.qs_core.specs.Core.{Chain, Owns, View}
+use Rattle.qs_core.specs.Held.{IsOwner}
+use Rattle.qs_core.proofs.Walks.{Contains-first, Contains-rest, Contains-cons_cases, Contains-nil}
+
+-- a chain that stands and owns the cell
+owns-from : (shape : Shape) (view : View) (chains : List Chain) (chain : Chain) (cell : ℕ) → view.chains ≡ chains → Contains chains chain → IsOwner shape chain cell → Owns shape view cell
+owns-from shape view chains chain cell e h o = record { chain = chain; stands = subst (λ cs. Contains cs chain) (sym e) h; complete = o.0; of_cell = o.1 }
+
+-- the chain that owns it
+owner-of : (shape : Shape) (view : View) (chain : Chain) (cell : ℕ) (o : Owns shape view cell) → chain ≡ o.chain → IsOwner shape chain cell
+owner-of shape view chain cell o e = subst (λ c. IsOwner shape c cell) (sym e) (o.complete, o.of_cell)
+
+pub owned_none : (shape : Shape) (view : View) (cell : ℕ) → view.chains ≡ [] → Owns shape view cell → ⊥
+owned_none shape view cell e o = Contains-nil o.chain (subst (λ cs. Contains cs o.chain) e o.stands)
+
+-- one chain
+pub owned_one : (shape : Shape) (view : View) (chain : Chain) (owned : Option ℕ) → view.chains ≡ chain ∷ [] → ((cell : ℕ) → ((owned ≡ Some cell) ↔ IsOwner shape chain cell))
+    → (cell : ℕ) → Owns shape view cell ↔ ((owned ≡ Some cell) ⊎ (◌≡◌ {A = Option ℕ} None (Some cell)))
+owned_one shape view chain owned e is cell = (
+  λ o. elim (Contains-cons_cases chain [] o.chain (subst (λ cs. Contains cs o.chain) e o.stands)) [
+    | inl same ↦ inl ((is cell).1 (owner-of shape view chain cell o same))
+    | inr h ↦ absurd (Contains-nil o.chain h)
+  ],
+  λ s. elim s [
+    | inl h ↦ owns-from shape view (chain ∷ []) chain cell e (Contains-first chain []) ((is cell).0 h)
+    | inr h ↦ absurd (none-some cell h)
+  ],
+)
+
+-- two chains
+pub owned_two : (shape : Shape) (view : View) (newest older : Chain) (owned other : Option ℕ) → view.chains ≡ newest ∷ older ∷ []
+    → ((cell : ℕ) → ((owned ≡ Some cell) ↔ IsOwner shape newest cell)) → ((cell : ℕ) → ((other ≡ Some cell) ↔ IsOwner shape older cell))
+    → (cell : ℕ) → Owns shape view cell ↔ ((owned ≡ Some cell) ⊎ (other ≡ Some cell))
+owned_two shape view newest older owned other e is is' cell = (
+  λ o. elim (Contains-cons_cases newest (older ∷ []) o.chain (subst (λ cs. Contains cs o.chain) e o.stands)) [
+    | inl same ↦ inl ((is cell).1 (owner-of shape view newest cell o same))
+    | inr h ↦ elim (Contains-cons_cases older [] o.chain h) [
+      | inl same ↦ inr ((is' cell).1 (owner-of shape view older cell o same))
+      | inr g ↦ absurd (Contains-nil o.chain g)
+    ]
+  ],
+  λ s. elim s [
+    | inl h ↦ owns-from shape view (newest ∷ older ∷ []) newest cell e (Contains-first newest (older ∷ [])) ((is cell).0 h)
+    | inr h ↦ owns-from shape view (newest ∷ older ∷ []) older cell e (Contains-rest newest (older ∷ []) older (Contains-first older [])) ((is' cell).0 h)
+  ],
+)
+
+-- two steps of such a kind
+pub both_ways : {P Q R : Type 0} → P ↔ Q → Q ↔ R → P ↔ R
+both_ways f g = (λ p. g.0 (f.0 p), λ r. f.1 (g.1 r))
+
+pub other_way : {P Q : Type 0} → P ↔ Q → Q ↔ P
+other_way f = (f.1, f.0)

@@ -1,0 +1,129 @@
+-- The machine after an event, and the place of the word that it changes.
+use Rattle.std.proofs.Common.{◌≡◌, ◌≢◌, ◌↔◌, ℕ, ◌-◌, ◌<◌, ◌≤◌, ◌^◌, List, [], ◌∷◌, length, get_or, set, slice_index, Contains, Option, Some, None, refl, sym, ap, ap₂, subst, ◌∙◌, arith, length-set}
+use Rattle.std.proofs.lemmas.Option.{slice_get_read, slice_get_within}
+use Rattle.qs_core.specs.declared.event.Event.{Event}
+use Rattle.qs_core.specs.declared.event.Note.{Note}
+use Rattle.qs_core.specs.declared.event.Step.{Step}
+use Rattle.qs_core.specs.declared.event.Step.TheVariants.{Lock, Raise, Lower, Unlock, Fetch, Return, Claim, Release}
+use Rattle.qs_core.specs.Shape.{Shape, IsShape, Touches, ancestors, or_else}
+use Rattle.qs_core.specs.Core.{Core, Running, View, empty_view, view_at, word_count}
+use Rattle.qs_core.specs.Sound.{IsDone, IsSound}
+use Rattle.qs_core.specs.Steps.{Allowed, CanRelease, IsAllowed, exchanged, newest, next_successor, object_of, rest, seen_by, view_after, word_of}
+use Rattle.qs_core.specs.Machine.{IsMachine, Machine, note_of, played}
+use Rattle.qs_core.specs.Held.{RunsOn}
+use Rattle.qs_core.specs.States.{IsOver, machine_of}
+use Rattle.qs_core.proofs.Ancestors.{ancestor_is_cell}
+use Rattle.qs_core.proofs.Chains.{newest_and_rest}
+use Rattle.qs_core.proofs.SoundKept.{sound_kept}
+use Rattle.qs_core.proofs.Views.{IsView-view_at, view_at_is}
+use Rattle.qs_core.proofs.Walks.{Contains-first}
+
+-- a task that is over on a leaf is done where it touches it
+record IsRunningOn (o : Option Running) (task leaf : ℕ) : Type 0 where
+  pub running : Running
+  pub is : o ≡ Some running
+  pub of_task : running.task ≡ task
+  pub left : Contains running.leaves leaf
+
+runs_some : (o : Option Running) (task leaf : ℕ) → RunsOn o task leaf → IsRunningOn o task leaf
+runs_some None task leaf r = absurd r
+runs_some (Some running) task leaf r = record { running = running; is = refl; of_task = r.0; left = r.1 }
+
+pub done_is : (shape : Shape) (core : Core) (task leaf : ℕ) → Touches shape task leaf → IsOver shape core task leaf ↔ IsDone shape core task leaf
+done_is shape core task leaf t = (
+  λ o. record {
+    touches = t;
+    claimed = o.claimed;
+    none_left = λ seat view running v r h. o.none_left (record {
+      seat = seat;
+      within = slice_get_within core.views seat view v.is;
+      runs = subst (λ x. RunsOn x task leaf) (sym (ap (λ (w : View). w.running) (view_at_is core seat view v) ∙ r.is)) (r.of_task, h);
+    });
+  },
+  λ d. record {
+    claimed = d.claimed;
+    none_left = λ l.
+        let r = runs_some (view_at core.views l.seat).running task leaf l.runs in
+        d.none_left l.seat (view_at core.views l.seat) r.running (IsView-view_at core l.seat l.within) (record { is = r.is; of_task = r.of_task }) r.left;
+  },
+)
+
+-- the newest chain is of a cell, with no more raises than there are ancestors
+newest_is : (shape : Shape) (core : Core) (seat : ℕ) → IsSound shape core → seat < length core.views → (view_at core.views seat).chains ≢ []
+    → ((newest (view_at core.views seat)).cell < length shape.parents) × ((newest (view_at core.views seat)).raises ≤ length (ancestors shape (newest (view_at core.views seat)).cell))
+newest_is shape core seat s l some =
+    let view = view_at core.views seat in
+    let chains = s.chains seat view (IsView-view_at core seat l) in
+    chains.cells (newest view) (subst (λ cs. Contains cs (newest view)) (sym (newest_and_rest view some)) (Contains-first (newest view) (rest view.chains)))
+
+first-contained : (xs : List ℕ) → xs ≢ [] → Contains xs (slice_index xs 0)
+first-contained [] n = absurd (n refl)
+first-contained (x ∷ xs) n = Contains-first x xs
+
+-- the successor that is released next is a task
+successor_is_task : (shape : Shape) (core : Core) (seat : ℕ) → IsShape shape → IsSound shape core → seat < length core.views → CanRelease (view_at core.views seat)
+    → next_successor (view_at core.views seat).running < length shape.tasks
+successor_is_task shape core seat is s l can =
+    let view = view_at core.views seat in
+    let runs = s.runs seat view can.running (IsView-view_at core seat l) can.runs in
+    let edge = (runs.successors (slice_index can.running.successors 0)).0 (first-contained can.running.successors can.left) in
+    let later = (is.tasks can.running.task runs.is_task).later (slice_index can.running.successors 0) edge in
+    subst (λ o. next_successor o < length shape.tasks) (sym can.runs) later.1
+
+-- the word of an allowed step is one of the words
+pub place_within : (shape : Shape) (core : Core) (seat : ℕ) (step : Step) → IsShape shape → IsSound shape core → seat < length core.views → Allowed shape (view_at core.views seat) step
+    → word_of shape step (object_of shape (view_at core.views seat) step) < word_count shape
+place_within shape core seat (Lock cell) is s l can = let h = can.is_cell in omega arith
+place_within shape core seat Raise is s l can =
+    let view = view_at core.views seat in
+    let h = ancestor_is_cell shape is (newest view).cell (newest view).raises can.not_all in omega arith
+place_within shape core seat Lower is s l can =
+    let view = view_at core.views seat in
+    let n = newest_is shape core seat s l can.some in
+    let r = can.raised in
+    let few = n.1 in
+    let k : (newest view).raises - 1 < length (ancestors shape (newest view).cell) = omega arith in
+    let h = ancestor_is_cell shape is (newest view).cell ((newest view).raises - 1) k in omega arith
+place_within shape core seat Unlock is s l can = let n = newest_is shape core seat s l can.some in let h = n.0 in omega arith
+place_within shape core seat (Fetch leaf) is s l can = let h = can.is_leaf in omega arith
+place_within shape core seat (Return leaf) is s l can = let h = can.is_leaf in omega arith
+place_within shape core seat (Claim task) is s l can = let h = can.is_task in omega arith
+place_within shape core seat Release is s l can = let h = successor_is_task shape core seat is s l can in omega arith
+
+-- an allowed event keeps what every machine keeps
+pub machine_kept : (m : Machine) (event : Event) → IsMachine m → IsAllowed m.shape m.core event → IsMachine (played m event)
+machine_kept m event is can =
+    let notes : length (played m event).notes ≡ length m.notes = length-set m.notes event.seat (Some (note_of m event)) in
+    let views : length (played m event).core.views ≡ length m.core.views =
+    length-set m.core.views event.seat (view_after m.shape (view_at m.core.views event.seat) event.step (seen_by m.shape m.core event.seat event.step)) in
+    record {
+      shape = is.shape;
+      sound = sound_kept m.shape m.core event is.shape is.few is.sound can;
+      one_note_each = notes ∙ is.one_note_each ∙ sym views;
+      few = subst (λ n. n < 2 ^ 32) (sym views) is.few;
+    }
+
+-- a view that was read
+pub read_view : (views : List View) (seat : ℕ) (view : View) → seat < length views → view ≡ get_or views seat view → view ≡ view_at views seat
+read_view views seat view l e = sym (ap (or_else empty_view) (slice_get_read views (length views) seat view refl l e))
+
+-- the word of the step that left the note
+pub place_below : (m : Machine) (event : Event) (note : Note) (place : ℕ) → IsMachine m → IsAllowed m.shape m.core event → note ≡ note_of m event
+    → place ≡ word_of m.shape event.step note.cell → place < length m.core.words
+place_below m event note place is can n p =
+    let within = place_within m.shape m.core event.seat event.step is.shape is.sound can.seat can.step in
+    let e : place ≡ word_of m.shape event.step (object_of m.shape (view_at m.core.views event.seat) event.step) = p ∙ ap (λ (x : Note). word_of m.shape event.step x.cell) n in
+    subst (λ k. k < length m.core.words) (sym e) (subst (λ k. word_of m.shape event.step (object_of m.shape (view_at m.core.views event.seat) event.step) < k) (sym is.sound.words) within)
+
+-- the parts of the machine after an event
+pub played_parts : (shape : Shape) (words : List ℕ) (views : List View) (notes : List (Option Note)) (event : Event) (note : Note) (place value : ℕ) (before after : View)
+    → note ≡ note_of (machine_of shape words views notes) event → place ≡ word_of shape event.step note.cell → value ≡ exchanged event.step note.seen
+    → before ≡ view_at views event.seat → after ≡ view_after shape before event.step note.seen
+    → machine_of shape (set words place value) (set views event.seat after) (set notes event.seat (Some note)) ≡ played (machine_of shape words views notes) event
+played_parts shape words views notes event note place value before after n p v b a =
+    let m = machine_of shape words views notes in
+    let made = note_of m event in
+    let place' : place ≡ word_of shape event.step made.cell = p ∙ ap (λ (x : Note). word_of shape event.step x.cell) n in
+    let value' : value ≡ exchanged event.step made.seen = v ∙ ap (λ (x : Note). exchanged event.step x.seen) n in
+    let after' : after ≡ view_after shape (view_at views event.seat) event.step made.seen = a ∙ ap₂ (λ (w : View) (x : Note). view_after shape w event.step x.seen) b n in
+    λ i. machine_of shape (set words (place' i) (value' i)) (set views event.seat (after' i)) (set notes event.seat (Some (n i)))

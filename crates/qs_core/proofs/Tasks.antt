@@ -1,0 +1,115 @@
+-- Which words a step leaves, and the facts of a release.
+use Rattle.std.proofs.Common.{◌≡◌, ◌≢◌, ℕ, zero, suc, ◌-◌, ◌<◌, ◌≤◌, List, [], ◌∷◌, length, slice_index, slice_set, Contains, Option, Some, None, refl, sym, ap, subst, arith}
+use Rattle.std.specs.Bool.{⊤}
+use Rattle.std.proofs.lemmas.List.{get_or-set_same, get_or-set_other}
+use Rattle.std.proofs.lemmas.List.Elements.{Contains-get_or}
+use Rattle.qs_core.specs.declared.event.Step.{Step}
+use Rattle.qs_core.specs.declared.event.Step.TheVariants.{Lock, Raise, Lower, Unlock, Fetch, Return, Claim, Release}
+use Rattle.qs_core.specs.Shape.{Shape, IsShape, IsEdge, ancestors, cells_up, parent_of}
+use Rattle.qs_core.specs.Core.{Chain, Core, View, Running, task_word, view_at}
+use Rattle.qs_core.specs.Steps.{Allowed, CanRelease, newest, word_of, object_of, next_successor}
+use Rattle.qs_core.specs.Sound.{IsSound, IsClaimed, AreChains, left_in, unreleased}
+use Rattle.qs_core.proofs.Edges.{count-pos}
+use Rattle.qs_core.proofs.Views.{IsView-view_at, part-le-sum_by}
+
+-- every cell above one is a cell
+cells_up-below : (shape : Shape) → IsShape shape → 0 < length shape.parents → (n : ℕ) (up : Option ℕ) → ((above : ℕ) → up ≡ Some above → above < length shape.parents)
+    → (i : ℕ) → slice_index (cells_up shape n up) i < length shape.parents
+cells_up-below shape s some zero up h i = some
+cells_up-below shape s some (suc n) None h i = some
+cells_up-below shape s some (suc n) (Some a) h zero = h a refl
+cells_up-below shape s some (suc n) (Some a) h (suc i) =
+    cells_up-below shape s some n (parent_of shape a) (λ above e. let l = (s.cells a (h a refl)).parent above e in let l' = h a refl in omega arith) i
+
+-- the ancestors of a cell are cells
+pub ancestor-below : (shape : Shape) (cell i : ℕ) → IsShape shape → cell < length shape.parents → slice_index (ancestors shape cell) i < length shape.parents
+unfolding ancestors
+ancestor-below shape cell i s l =
+    cells_up-below shape s (omega arith) cell (parent_of shape cell) (λ above e. let l' = (s.cells cell l).parent above e in omega arith) i
+
+-- the cell of the newest chain is one
+newest-below : (shape : Shape) (core : Core) (view : View) → AreChains shape core view → view.chains ≢ [] → (newest view).cell < length shape.parents
+newest-below shape core view chains some = go view.chains refl
+  where
+    go : (cs : List Chain) → view.chains ≡ cs → (newest view).cell < length shape.parents
+    go [] e = absurd (some e)
+    go (c ∷ cs) e =
+        let first : newest view ≡ c = ap (λ (xs : List Chain). newest (record view { chains = xs })) e in
+        let there : Contains view.chains c = subst (λ (xs : List Chain). Contains xs c) (sym e) (0, omega arith, refl) in
+        rw first ((chains.cells c there).0)
+
+-- the word of a task stays where another word is written
+pub word-other : (shape : Shape) (words : List ℕ) (word value task : ℕ) → task_word shape task ≢ word → slice_index (slice_set words word value) (task_word shape task) ≡ slice_index words (task_word shape task)
+word-other shape words word value task n = get_or-set_other words word (task_word shape task) value 0 n
+
+-- a word that is written is there
+pub word-same : (shape : Shape) (core : Core) (value task : ℕ) → IsSound shape core → task < length shape.tasks → slice_index (slice_set core.words (task_word shape task) value) (task_word shape task) ≡ value
+word-same shape core value task s l = get_or-set_same core.words (task_word shape task) value 0 (let e = s.words in omega arith)
+
+-- a step on the word of a cell or a leaf
+abbrev pub LeavesTasks : Step → Type 0
+LeavesTasks (Claim task) = ⊥
+LeavesTasks Release = ⊥
+LeavesTasks _ = ⊤
+
+-- its word is no task's
+pub word-apart : (shape : Shape) (core : Core) (seat : ℕ) (step : Step) (task : ℕ) → IsShape shape → IsSound shape core → seat < length core.views → Allowed shape (view_at core.views seat) step → LeavesTasks step
+    → task_word shape task ≢ word_of shape step (object_of shape (view_at core.views seat) step)
+word-apart shape core seat (Lock cell) task s sound l a p = λ e. let c = a.is_cell in omega arith
+word-apart shape core seat Raise task s sound l a p =
+    let view = view_at core.views seat in
+    let cell = newest-below shape core view (sound.chains seat view (IsView-view_at core seat l)) a.some in
+    let c = ancestor-below shape (newest view).cell (newest view).raises s cell in
+    λ e. omega arith
+word-apart shape core seat Lower task s sound l a p =
+    let view = view_at core.views seat in
+    let cell = newest-below shape core view (sound.chains seat view (IsView-view_at core seat l)) a.some in
+    let c = ancestor-below shape (newest view).cell ((newest view).raises - 1) s cell in
+    λ e. omega arith
+word-apart shape core seat Unlock task s sound l a p =
+    let view = view_at core.views seat in
+    let cell = newest-below shape core view (sound.chains seat view (IsView-view_at core seat l)) a.some in
+    λ e. omega arith
+word-apart shape core seat (Fetch leaf) task s sound l a p = λ e. let c = a.is_leaf in omega arith
+word-apart shape core seat (Return leaf) task s sound l a p = λ e. let c = a.is_leaf in omega arith
+word-apart shape core seat (Claim t) task s sound l a p = absurd p
+word-apart shape core seat Release task s sound l a p = absurd p
+
+-- what is known where a successor is released
+pub record IsReleasing (shape : Shape) (core : Core) (view : View) (running : Running) (after : ℕ) : Type 0 where
+  pub next : next_successor view.running ≡ after
+  pub left : Contains running.successors after
+  pub edge : IsEdge shape running.task after
+  pub is_task : after < length shape.tasks
+  pub counted : 1 ≤ left_in view.running after
+  pub unreleased : 1 ≤ unreleased shape core after
+  pub unclaimed : IsClaimed shape core after → ⊥
+
+-- a list that isn't empty has an element
+some-length : (xs : List ℕ) → xs ≢ [] → 0 < length xs
+some-length [] n = absurd (n refl)
+some-length (x ∷ xs) n = omega arith
+
+-- it is known where a release is allowed
+pub IsReleasing-from : (shape : Shape) (core : Core) (seat : ℕ) → IsShape shape → IsSound shape core → seat < length core.views → (a : CanRelease (view_at core.views seat))
+    → IsReleasing shape core (view_at core.views seat) a.running (slice_index a.running.successors 0)
+IsReleasing-from shape core seat s sound l a =
+    let view = view_at core.views seat in
+    let after = slice_index a.running.successors 0 in
+    let v = IsView-view_at core seat l in
+    let runs = sound.runs seat view a.running v a.runs in
+    let left : Contains a.running.successors after = Contains-get_or a.running.successors 0 0 (some-length a.running.successors a.left) in
+    let edge = (runs.successors after).0 left in
+    let below = ((s.tasks a.running.task runs.is_task).later after edge).1 in
+    let counted : 1 ≤ left_in view.running after = rw a.runs (let c = count-pos a.running.successors after left in omega arith) in
+    let part = part-le-sum_by (λ (v : View). left_in v.running after) core seat view v in
+    let unreleased : 1 ≤ unreleased shape core after = omega arith in
+    record {
+      next = ap next_successor a.runs;
+      left = left;
+      edge = edge;
+      is_task = below;
+      counted = counted;
+      unreleased = unreleased;
+      unclaimed = λ c. let z = sound.claimed_ready after below c in omega arith;
+    }

@@ -1,0 +1,91 @@
+-- The views and the words after a step of one seat.
+use Rattle.std.proofs.Common.{◌≡◌, ◌≢◌, ℕ, zero, suc, ◌+◌, ◌<◌, ◌≤◌, ◌⊎◌, List, [], ◌∷◌, length, get_or, set, slice_get, slice_set, sum_by, Some, refl, sym, ap, ◌∙◌, inl, inr, length-set}
+use Rattle.std.proofs.lemmas.Bool.{cases_eq}
+use Rattle.std.proofs.lemmas.List.{get_or-set_same}
+use Rattle.std.proofs.lemmas.List.Sums.{sum_by-set, get_or-le-sum_by}
+use Rattle.std.proofs.lemmas.Option.{slice_get-get_or, get_or_from_slice_get, slice_get_within, same_Some}
+use Rattle.qs_core.specs.Shape.{Shape, TaskShape, or_else, task_at, no_task}
+use Rattle.qs_core.specs.Core.{Core, View, empty_view, view_at}
+use Rattle.qs_core.specs.Sound.{IsView}
+
+-- an element that was put is there
+pub slice_get-set_same : {X : Type 0} (xs : List X) (i : ℕ) (y : X) → i < length xs → slice_get (set xs i y) i ≡ Some y
+slice_get-set_same xs i y l = slice_get-get_or (set xs i y) i y (rw (length-set xs i y) l) ∙ ap Some (get_or-set_same xs i y y l)
+
+-- the other elements stay
+pub slice_get-set_other : {X : Type 0} (xs : List X) (i j : ℕ) (y : X) → j ≢ i → slice_get (set xs i y) j ≡ slice_get xs j
+slice_get-set_other [] i j y n = refl
+slice_get-set_other (x ∷ xs) zero zero y n = absurd (n refl)
+slice_get-set_other (x ∷ xs) zero (suc j) y n = refl
+slice_get-set_other (x ∷ xs) (suc i) zero y n = refl
+slice_get-set_other (x ∷ xs) (suc i) (suc j) y n = slice_get-set_other xs i j y (λ e. n (ap suc e))
+
+-- the state with a seat's view and the words changed
+abbrev pub changed : Core → List ℕ → ℕ → View → Core
+changed core words seat new = record { words = words; views = slice_set core.views seat new }
+
+-- the view of a seat is an element
+pub view_at-get_or : (views : List View) (seat : ℕ) → view_at views seat ≡ get_or views seat empty_view
+view_at-get_or [] seat = refl
+view_at-get_or (x ∷ xs) zero = refl
+view_at-get_or (x ∷ xs) (suc seat) = view_at-get_or xs seat
+
+-- a seat below the count has its view
+pub IsView-view_at : (core : Core) (seat : ℕ) → seat < length core.views → IsView core seat (view_at core.views seat)
+IsView-view_at core seat l = record { is = slice_get-get_or core.views seat empty_view l ∙ ap Some (sym (view_at-get_or core.views seat)) }
+
+-- the view of a seat is the one that it has
+pub view_at_is : (core : Core) (seat : ℕ) (view : View) → IsView core seat view → view_at core.views seat ≡ view
+view_at_is core seat view v = ap (or_else empty_view) v.is
+
+-- a seat with a view is below the count
+pub seat_below : (core : Core) (seat : ℕ) (view : View) → IsView core seat view → seat < length core.views
+seat_below core seat view v = slice_get_within core.views seat view v.is
+
+-- after a change the seat has its new view
+pub IsView-changed_same : (core : Core) (words : List ℕ) (seat : ℕ) (new : View) → seat < length core.views → IsView (changed core words seat new) seat new
+IsView-changed_same core words seat new l = record { is = slice_get-set_same core.views seat new l }
+
+-- another seat keeps its view
+pub IsView-changed_other : (core : Core) (words : List ℕ) (seat : ℕ) (new : View) (other : ℕ) (view : View) → other ≢ seat
+    → IsView core other view → IsView (changed core words seat new) other view
+IsView-changed_other core words seat new other view n v = record { is = slice_get-set_other core.views seat other new n ∙ v.is }
+
+-- a view after a change: the new one of the seat
+pub record IsNew (seat : ℕ) (new : View) (other : ℕ) (view : View) : Type 0 where
+  pub of_seat : other ≡ seat
+  pub is : new ≡ view
+
+-- another seat's view, as it was
+pub record IsOther (core : Core) (seat other : ℕ) (view : View) : Type 0 where
+  pub apart : other ≢ seat
+  pub was : IsView core other view
+
+-- each view is one or the other
+pub view_cases : (core : Core) (words : List ℕ) (seat : ℕ) (new : View) (other : ℕ) (view : View) → seat < length core.views
+    → IsView (changed core words seat new) other view → IsNew seat new other view ⊎ IsOther core seat other view
+view_cases core words seat new other view l v =
+    elim (cases_eq other seat) [
+      | inl e ↦ inl (record { of_seat = e; is = same_Some new view (sym (slice_get-set_same core.views seat new l) ∙ ap (slice_get (set core.views seat new)) (sym e) ∙ v.is) })
+      | inr n ↦ inr (record { apart = n; was = record { is = sym (slice_get-set_other core.views seat other new n) ∙ v.is } })
+    ]
+
+-- a sum over the views after a change
+pub sum_by-views : (f : View → ℕ) (views : List View) (seat : ℕ) (new : View) → seat < length views
+    → sum_by f (slice_set views seat new) + f (view_at views seat) ≡ sum_by f views + f new
+sum_by-views f views seat new l = rw (view_at-get_or views seat) (sum_by-set f views seat new empty_view l)
+
+-- a view's part is at most the sum
+pub part-le-sum_by : (f : View → ℕ) (core : Core) (seat : ℕ) (view : View) → IsView core seat view → f view ≤ sum_by f core.views
+part-le-sum_by f core seat view v =
+    let l = get_or-le-sum_by f core.views seat view (seat_below core seat view v) in
+    rw (get_or_from_slice_get core.views seat view view v.is) at l
+
+-- the shape of a task is an element
+pub task_at-get_or : (shape : Shape) (task : ℕ) → task_at shape task ≡ get_or shape.tasks task no_task
+task_at-get_or shape task = go shape.tasks task
+  where
+    go : (xs : List TaskShape) (i : ℕ) → or_else no_task (slice_get xs i) ≡ get_or xs i no_task
+    go [] i = refl
+    go (x ∷ xs) zero = refl
+    go (x ∷ xs) (suc i) = go xs i

@@ -1,0 +1,12 @@
+pub mod Core
+pub mod Laws
+pub mod Runs
+pub mod Shape
+pub mod Sound
+pub mod Steps
+pub mod Blocks
+pub mod Machine
+pub mod Listed
+pub mod Held
+pub mod States
+pub mod Family

@@ -1,0 +1,92 @@
+//! The events of the machine: each is one step of one seat on one word.
+ghost use Rattle.std.specs.Prelude.{◌≡◌};
+ghost use Rattle.qs_core.specs.Machine.{kind_of};
+ghost use Rattle.qs_core.specs.Steps.{exchanged};
+
+/// A step: one read and write of one word.
+#[derive(Clone, Copy, Debug, PartialEq, Eq)]
+pub enum Step {
+    /// Locks a cell where its word is 0.
+    Lock { cell: u32 },
+    /// Raises the next ancestor of the newest chain.
+    Raise,
+    /// Lowers the ancestor that the newest chain raised last.
+    Lower,
+    /// Unlocks the cell of the newest chain.
+    Unlock,
+    /// Takes the block of a leaf out.
+    Fetch { leaf: u32 },
+    /// Brings the block of a leaf home.
+    Return { leaf: u32 },
+    /// Claims a task where its word is 0.
+    Claim { task: u32 },
+    /// Releases the next successor of the running task.
+    Release,
+}
+
+impl Step {
+    /// The kind.
+    pub(crate) fn kind(self) -> StepKind
+        ensures { result ≡ kind_of self }
+    {
+        match self {
+            Step::Lock { .. } => StepKind::Lock,
+            Step::Raise => StepKind::Raise,
+            Step::Lower => StepKind::Lower,
+            Step::Unlock => StepKind::Unlock,
+            Step::Fetch { .. } => StepKind::Fetch,
+            Step::Return { .. } => StepKind::Return,
+            Step::Claim { .. } => StepKind::Claim,
+            Step::Release => StepKind::Release,
+        }
+    }
+
+    /// What the word becomes that the step saw.
+    pub(crate) fn exchanged(self, seen: u64) -> u64
+        ensures { result ≡ exchanged self seen }
+    {
+        match self {
+            Step::Lock { .. } if seen == 0 => 1,
+            Step::Claim { .. } if seen == 0 => 1 << 63,
+            Step::Lock { .. } | Step::Claim { .. } => seen,
+            Step::Raise => seen.wrapping_add(2),
+            Step::Lower => seen.wrapping_sub(2),
+            Step::Unlock | Step::Release => seen.wrapping_sub(1),
+            Step::Fetch { .. } => 1,
+            Step::Return { .. } => 0,
+        }
+    }
+}
+
+/// The kind of a step.
+#[derive(Clone, Copy, Debug, PartialEq, Eq)]
+pub enum StepKind {
+    Lock,
+    Raise,
+    Lower,
+    Unlock,
+    Fetch,
+    Return,
+    Claim,
+    Release,
+}
+
+/// A step of a seat.
+#[derive(Clone, Copy, Debug, PartialEq, Eq)]
+pub struct Event {
+    pub seat: u32,
+    pub step: Step,
+}
+
+/// What a step leaves with its seat.
+#[derive(Clone, Copy, Debug, PartialEq, Eq)]
+pub struct Note {
+    /// The number of the step among those of its seat, from 1.
+    pub number: u64,
+    pub kind: StepKind,
+    /// The cell, leaf or task on whose word the step was made: the ancestor for Raise and Lower, the
+    /// successor for Release.
+    pub cell: u32,
+    /// The word that the step saw.
+    pub seen: u64,
+}

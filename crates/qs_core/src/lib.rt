@@ -1,0 +1,20 @@
+//! The machine of events: locks on cells in a hierarchy, blocks fetched and returned, tasks claimed and released.
+#![tactic(auto)]
+
+mod event;
+mod laws;
+mod layout;
+mod player;
+mod seat;
+mod start;
+mod state;
+mod work;
+
+pub use event::{Event, Note, Step, StepKind};
+pub use laws::{runs_are_sound, steps_are_sound};
+pub use player::play;
+pub use state::State;
+pub use work::Work;
+
+#[cfg(test)]
+mod tests;
