@@ -6,8 +6,8 @@ use Rattle.std.proofs.lemmas.List.FromFn.{length-range_with_len, get_or-range_wi
 use Rattle.std.proofs.lemmas.List.Elements.{Contains-append_cases, Contains-append_left, Contains-append_right}
 use Rattle.qs_core.specs.Shape.{Shape, IsBelow, Touches, leaves_below, leaves_of, leaves_of_other, range_of, task_at}
 use Rattle.qs_core.specs.Listed.{IsBelowSome}
+use Rattle.qs_core.proofs.Counts.{Contains-nil}
 use Rattle.qs_core.proofs.Edges.{range-within}
-use Rattle.qs_core.proofs.Walks.{Contains-nil}
 
 -- a test by two tests, the first of which holds or not
 pub or_first : {P Q R : Type 0} {r : Bool} → R ↔ (P ⊎ Q) → r ≡ true → ((r ≡ true) ↔ P) → (r ≡ true) ↔ R

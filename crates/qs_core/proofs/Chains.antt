@@ -1,13 +1,16 @@
 -- The chains of a seat, and what a change of the newest one leaves of their laws.
-use Rattle.std.proofs.Common.{◌≡◌, ◌≢◌, ℕ, suc, ◌+◌, ◌*◌, ◌<◌, ◌≤◌, eqb, false, List, [], ◌∷◌, length, get_or, take, set, slice_get, slice_index, Contains, sum_by, count_by, Some, refl, sym, ap, ap₂, subst, arith, get_or-take, length-take-le}
-use Rattle.std.proofs.lemmas.Option.{slice_get_within, slice_get-get_or}
-use Rattle.std.proofs.lemmas.List.Sums.{sum_by-cons, sum_by-le, get_or-le-sum_by}
+use Rattle.std.proofs.Common.{◌≡◌, ◌≢◌, ℕ, suc, ◌+◌, ◌*◌, ◌<◌, ◌≤◌, eqb, List, [], ◌∷◌, length, get_or, take, set, slice_get, slice_index, Contains, sum_by, count_by, Some, refl, sym, ap, ap₂, subst, arith, get_or-take, length-take-le}
+use Rattle.std.proofs.lemmas.Option.{none-some, slice_get_within}
+use Rattle.std.proofs.lemmas.List.Sums.{sum_by-cons, get_or-le-sum_by}
+use Rattle.std.specs.List.{range_with_len}
 use Rattle.qs_core.specs.Shape.{Shape, IsShape, ancestors, or_else}
-use Rattle.qs_core.specs.Core.{Chain, Core, IsComplete, View, cell_word, view_at}
-use Rattle.qs_core.specs.Steps.{ancestor_at, newest, rest}
+use Rattle.qs_core.specs.Core.{Chain, Core, IsComplete, View, cell_word, empty_view, view_at}
+use Rattle.qs_core.specs.Steps.{ancestor_at, newest, no_chain, rest}
 use Rattle.qs_core.specs.Sound.{AreChains, IsMarked, IsView, locks_of, raises_of}
 use Rattle.qs_core.proofs.Ancestors.{raised_once}
-use Rattle.qs_core.proofs.Counts.{Contains-from_get, count_by-take_suc, Contains-later, counted, each_cons, one_if, one_if-same, share-le, sum_by-set_view}
+use Rattle.qs_core.proofs.Edges.{part-le-range}
+use Rattle.qs_core.proofs.Totals.{few_for_places, sum_by-turned, sum_by-within}
+use Rattle.qs_core.proofs.Counts.{Contains-from_get, Contains-nil, get_from_Contains, count_by-take_suc, Contains-later, counted, each_cons, one_if, one_if-same, share-le, sum_by-set_view}
 
 -- how often some chains lock and raise a cell
 abbrev pub lock_count : ℕ → List Chain → ℕ
@@ -35,6 +38,15 @@ listed shape core view a = record { few = a.few; cells = a.cells; older = a.olde
 
 pub from_listed : (shape : Shape) (core : Core) (view : View) → AreListed shape core.views view.chains → AreChains shape core view
 from_listed shape core view a = record { few = a.few; cells = a.cells; older = a.older; unmarked = λ chain k h. a.unmarked chain h k }
+
+-- a view that holds nothing keeps them
+pub empty_chains : (shape : Shape) (core : Core) → AreChains shape core empty_view
+empty_chains shape core = record {
+  few = omega arith;
+  cells = λ chain c. absurd (Contains-nil chain c);
+  older = λ chain e. absurd (none-some chain e);
+  unmarked = λ chain k c. absurd (Contains-nil chain c);
+}
 
 -- what these chains have raised and nothing locked still isn't locked
 abbrev pub StaysFree : Shape → List View → List View → List Chain → Type 0
@@ -83,7 +95,7 @@ first_and_rest d [] n = absurd (n refl)
 first_and_rest d (x ∷ xs) n = refl
 
 pub newest_and_rest : (view : View) → view.chains ≢ [] → view.chains ≡ newest view ∷ rest view.chains
-newest_and_rest view n = first_and_rest (record { cell = 0; raises = 0; stopped = false; giving = false }) view.chains n
+newest_and_rest view n = first_and_rest no_chain view.chains n
 
 -- another chain of the same cell in the place of the newest locks as it did
 pub locks_changed : (c : ℕ) (old new : Chain) (older : List Chain) → new.cell ≡ old.cell → lock_count c (new ∷ older) ≡ lock_count c (old ∷ older)
@@ -137,16 +149,23 @@ raises_its_ancestors shape core seat view chain k v h l m =
     let c = share-le (λ (v : View). raise_count shape (ancestor_at shape chain k) v.chains) core.views view (Contains-from_get core.views seat view v.is) in
     omega arith
 
--- the chains of a view raise a cell twice at most
-raise_count-le : (shape : Shape) → IsShape shape → (cell : ℕ) (chains : List Chain) → length chains ≤ 2 → raise_count shape cell chains ≤ 2
-raise_count-le shape is cell chains few =
-    let a = sum_by-le (λ (c : Chain). count_by (λ a. eqb a cell) (take c.raises (ancestors shape c.cell))) 1 chains
-    (λ k d l. raised_once shape is (get_or chains k d).cell cell (get_or chains k d).raises) in
+-- chains raise a cell no more often than they lock the cells, each raising it once at most
+raise_count-le : (shape : Shape) → IsShape shape → (cell : ℕ) (chains : List Chain) → ((c : Chain) → Contains chains c → c.cell < length shape.parents)
+    → raise_count shape cell chains ≤ sum_by (λ k. lock_count k chains) (range_with_len 0 (length shape.parents))
+raise_count-le shape is cell chains within =
+    let cells = range_with_len 0 (length shape.parents) in
+    let a = sum_by-within (λ (c : Chain). count_by (λ a. eqb a cell) (take c.raises (ancestors shape c.cell))) (λ (c : Chain). sum_by (one_if c.cell) cells) chains
+    (λ c h.
+    let once = raised_once shape is c.cell cell c.raises in
+    let here = part-le-range (one_if c.cell) c.cell (length shape.parents) (within c h) in
+    let one = one_if-same c.cell c.cell refl in
+    omega arith) in
+    let b = sum_by-turned (λ (c : Chain) (k : ℕ). one_if c.cell k) chains cells in
     omega arith
 
--- so few raises are made
-pub raises_few : (shape : Shape) (core : Core) → IsShape shape → IsSoundCells shape core → (cell : ℕ) → raises_of shape cell core.views ≤ length core.views * 2
+-- a cell is raised no more often than there are cells, since one chain at most locks each
+pub raises_few : (shape : Shape) (core : Core) → IsShape shape → IsSoundCells shape core → (cell : ℕ) → raises_of shape cell core.views ≤ length shape.parents
 raises_few shape core is s cell =
-    sum_by-le (λ (v : View). raise_count shape cell v.chains) 2 core.views
-    (λ k d l. raise_count-le shape is cell (get_or core.views k d).chains
-    (s.chains k (get_or core.views k d) (record { is = slice_get-get_or core.views k d l })).few)
+    few_for_places (λ (v : View). raise_count shape cell v.chains) (λ (v : View) (k : ℕ). lock_count k v.chains) core.views (length shape.parents)
+    (λ v h. let w = get_from_Contains core.views v h in raise_count-le shape is cell v.chains (λ c g. ((s.chains w.0 v (record { is = w.1 })).cells c g).0))
+    s.one_lock

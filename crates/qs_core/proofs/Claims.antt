@@ -63,7 +63,7 @@ same_before_claim shape core event task before leaf allowed claims n done =
           elim (cases_eq seat event.seat) [
             | inl e ↦
                 let same : view_at core.views event.seat ≡ view = ap (view_at core.views) (sym e) ∙ view_at_is core seat view v in
-                none-some running (sym can.none_runs ∙ ap (λ (w : View). w.running) same ∙ r.is)
+                none-some running (sym can.free.none_runs ∙ ap (λ (w : View). w.running) same ∙ r.is)
             | inr n' ↦ done'.none_left seat view running (IsView-changed_other core _ event.seat _ seat view n' v) r c
           ];
     }

@@ -1,5 +1,5 @@
 -- Lists copied one element after another, and the opening state made of such lists.
-use Rattle.std.proofs.Common.{◌≡◌, ℕ, zero, suc, ◌+◌, ◌<◌, ◌≤◌, ◌^◌, List, [], ◌∷◌, ◌++◌, length, get_or, take, map, replicate, slice_get, Option, None, refl, sym, ap, ap₂, subst, ◌∙◌, arith, append_assoc}
+use Rattle.std.proofs.Common.{◌≡◌, ℕ, zero, suc, ◌+◌, ◌<◌, ◌≤◌, List, [], ◌∷◌, ◌++◌, length, get_or, take, map, replicate, slice_get, Option, None, refl, sym, ap, ap₂, subst, ◌∙◌, arith, append_assoc}
 use Rattle.std.specs.List.{range_with_len}
 use Rattle.std.proofs.lemmas.List.{take_more, take_all, length-replicate, replicate-append-replicate}
 use Rattle.std.proofs.lemmas.List.FromFn.{map-range_with_len_more}
@@ -49,12 +49,11 @@ words_more shape task waits items new w n is =
     ∙ ap (λ xs. front ++ xs) (sym (map-range_with_len_more (edges_into shape) 0 task task z))
 
 -- the opening state of the machine
-pub made_is : (shape : Shape) (seats : ℕ) → IsShape shape → seats < 2 ^ 32 → IsMachine (made shape seats)
-made_is shape seats is l = record {
+pub made_is : (shape : Shape) (seats : ℕ) → IsShape shape → IsMachine (made shape seats)
+made_is shape seats is = record {
   shape = is;
   sound = opening_is_sound shape seats is;
   one_note_each = length-replicate seats None ∙ sym (length-replicate seats empty_view);
-  few = subst (λ n. n < 2 ^ 32) (sym (length-replicate seats empty_view)) l;
 }
 
 pub made_of_lists : (shape layout : Shape) (seats : ℕ) (words : List ℕ) (views : List View) (notes : List (Option Note)) → layout ≡ shape → words ≡ (opening shape seats).words

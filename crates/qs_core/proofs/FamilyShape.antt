@@ -1,136 +1,221 @@
--- The work of the tests meets the laws.
-use Rattle.std.proofs.Common.{◌↔◌, ◌⊎◌, set, ◌≡◌, ℕ, zero, suc, lit<, ◌<◌, ◌≤◌, List, [], ◌∷◌, length, get_or, eqb, Contains, Some, refl, inl, inr, subst, arith}
+-- The work of the tests meets the laws, with tasks and without.
+use Rattle.std.proofs.Common.{◌↔◌, ◌⊎◌, set, ◌≡◌, ℕ, zero, suc, lit<, ◌<◌, ◌≤◌, ◌^◌, Bool, true, false, cond, List, [], ◌∷◌, length, get_or, count_by, eqb, Contains, Some, refl, sym, ◌∙◌, inl, inr, subst, arith}
+use Rattle.std.proofs.lemmas.Bool.{cases_eq}
 use Rattle.std.proofs.lemmas.Option.{none-some, same_Some}
-use Rattle.std.proofs.lemmas.List.Sums.{count_by-le-length}
-use Rattle.qs_core.specs.Shape.{IsShape, IsCellShape, IsTaskShape, IsEdge, IsPath, CellContains, HaveOwnLeaves, ancestors, range_of}
-use Rattle.qs_core.specs.Blocks.{AreAdded, AreReady, IsAdded, IsReady, first_leaves}
-use Rattle.qs_core.specs.Family.{family}
-use Rattle.qs_core.proofs.Walks.{Contains-nil, Contains-cons_cases}
+use Rattle.std.proofs.lemmas.List.Sums.{count_by-le-length, sum_by-cons}
+use Rattle.qs_core.specs.Shape.{Shape, AreApart, IsShape, IsCellShape, IsTaskShape, Precedes, Touches, CellContains, HaveOwnLeaves, ancestors, leaves_of, range_of}
+use Rattle.qs_core.specs.Blocks.{AreAdded, AreReady, IsAdded, IsReady, first_leaves, second_leaves}
+use Rattle.qs_core.specs.Family.{family, task_0, tasks_where}
+use Rattle.qs_core.proofs.Counts.{Contains-cons_cases, Contains-nil, one_if-le, one_if-other}
+use Rattle.qs_core.proofs.Edges.{count-none}
+use Rattle.qs_core.proofs.Events.{path-up}
 
 -- cell 0 contains every cell, and cell 1 all but cell 0
-contains_0 : (cell : ℕ) → cell < 4 → CellContains family 0 cell
+contains_0 : (has_tasks has_third : Bool) (cell : ℕ) → cell < 4 → CellContains (family has_tasks has_third) 0 cell
 unfolding ancestors
-contains_0 zero l = inl refl
-contains_0 (suc zero) l = inr (0, (omega arith), refl)
-contains_0 (suc (suc zero)) l = inr (1, (omega arith), refl)
-contains_0 (suc (suc (suc zero))) l = inr (1, (omega arith), refl)
-contains_0 (suc (suc (suc (suc cell)))) l = absurd (omega arith)
+contains_0 has_tasks has_third zero l = inl refl
+contains_0 has_tasks has_third (suc zero) l = inr (0, (omega arith), refl)
+contains_0 has_tasks has_third (suc (suc zero)) l = inr (1, (omega arith), refl)
+contains_0 has_tasks has_third (suc (suc (suc zero))) l = inr (1, (omega arith), refl)
+contains_0 has_tasks has_third (suc (suc (suc (suc cell)))) l = absurd (omega arith)
 
-contains_1 : (cell : ℕ) → suc cell < 4 → CellContains family 1 (suc cell)
+contains_1 : (has_tasks has_third : Bool) (cell : ℕ) → suc cell < 4 → CellContains (family has_tasks has_third) 1 (suc cell)
 unfolding ancestors
-contains_1 zero l = inl refl
-contains_1 (suc zero) l = inr (0, (omega arith), refl)
-contains_1 (suc (suc zero)) l = inr (0, (omega arith), refl)
-contains_1 (suc (suc (suc cell))) l = absurd (omega arith)
+contains_1 has_tasks has_third zero l = inl refl
+contains_1 has_tasks has_third (suc zero) l = inr (0, (omega arith), refl)
+contains_1 has_tasks has_third (suc (suc zero)) l = inr (0, (omega arith), refl)
+contains_1 has_tasks has_third (suc (suc (suc cell))) l = absurd (omega arith)
 
-own_leaves : HaveOwnLeaves family
-own_leaves zero b leaf la lb apart below below' = apart.not_above (contains_0 b lb)
-own_leaves (suc a) zero leaf la lb apart below below' = apart.not_below (contains_0 (suc a) la)
-own_leaves (suc zero) (suc b) leaf la lb apart below below' = apart.not_above (contains_1 b lb)
-own_leaves (suc (suc a)) (suc zero) leaf la lb apart below below' = apart.not_below (contains_1 (suc a) la)
-own_leaves (suc (suc zero)) (suc (suc zero)) leaf la lb apart below below' = apart.not_above (inl refl)
-own_leaves (suc (suc (suc zero))) (suc (suc (suc zero))) leaf la lb apart below below' = apart.not_above (inl refl)
-own_leaves (suc (suc zero)) (suc (suc (suc zero))) leaf la lb apart below below' = let t = below.to in let f = below'.from in absurd (omega arith)
-own_leaves (suc (suc (suc zero))) (suc (suc zero)) leaf la lb apart below below' = let f = below.from in let t = below'.to in absurd (omega arith)
-own_leaves (suc (suc (suc (suc a)))) (suc (suc b)) leaf la lb apart below below' = absurd (omega arith)
-own_leaves (suc (suc zero)) (suc (suc (suc (suc b)))) leaf la lb apart below below' = absurd (omega arith)
-own_leaves (suc (suc (suc zero))) (suc (suc (suc (suc b)))) leaf la lb apart below below' = absurd (omega arith)
+own_leaves : (has_tasks has_third : Bool) → HaveOwnLeaves (family has_tasks has_third)
+own_leaves has_tasks has_third zero b leaf la lb apart below below' = apart.not_above (contains_0 has_tasks has_third b lb)
+own_leaves has_tasks has_third (suc a) zero leaf la lb apart below below' = apart.not_below (contains_0 has_tasks has_third (suc a) la)
+own_leaves has_tasks has_third (suc zero) (suc b) leaf la lb apart below below' = apart.not_above (contains_1 has_tasks has_third b lb)
+own_leaves has_tasks has_third (suc (suc a)) (suc zero) leaf la lb apart below below' = apart.not_below (contains_1 has_tasks has_third (suc a) la)
+own_leaves has_tasks has_third (suc (suc zero)) (suc (suc zero)) leaf la lb apart below below' = apart.not_above (inl refl)
+own_leaves has_tasks has_third (suc (suc (suc zero))) (suc (suc (suc zero))) leaf la lb apart below below' = apart.not_above (inl refl)
+own_leaves has_tasks has_third (suc (suc zero)) (suc (suc (suc zero))) leaf la lb apart below below' = let to = below.to in let from = below'.from in absurd (omega arith)
+own_leaves has_tasks has_third (suc (suc (suc zero))) (suc (suc zero)) leaf la lb apart below below' = let from = below.from in let to = below'.to in absurd (omega arith)
+own_leaves has_tasks has_third (suc (suc (suc (suc a)))) (suc (suc b)) leaf la lb apart below below' = absurd (omega arith)
+own_leaves has_tasks has_third (suc (suc zero)) (suc (suc (suc (suc b)))) leaf la lb apart below below' = absurd (omega arith)
+own_leaves has_tasks has_third (suc (suc (suc zero))) (suc (suc (suc (suc b)))) leaf la lb apart below below' = absurd (omega arith)
 
 -- the parent of each cell but the first
 below_parent : (cell p above : ℕ) → p < cell → Some p ≡ Some above → above < cell
 below_parent cell p above l e = subst (λ x. x < cell) (same_Some p above e) l
 
-cells : (cell : ℕ) → cell < 4 → IsCellShape family cell
-cells zero l = record { parent = λ above e. absurd (none-some above e); some_leaf = omega arith; leaves = omega arith; inside = λ above e. absurd (none-some above e) }
-cells (suc zero) l = record {
+cells : (has_tasks has_third : Bool) (cell : ℕ) → cell < 4 → IsCellShape (family has_tasks has_third) cell
+cells has_tasks has_third zero l = record { parent = λ above e. absurd (none-some above e); some_leaf = omega arith; leaves = omega arith; inside = λ above e. absurd (none-some above e) }
+cells has_tasks has_third (suc zero) l = record {
   parent = λ above e. below_parent 1 0 above (omega arith) e;
   some_leaf = omega arith;
   leaves = omega arith;
-  inside = λ above e. subst (λ x. ((range_of family x).0 ≤ 0) × (2 ≤ (range_of family x).1)) (same_Some 0 above e) (omega arith, omega arith);
+  inside = λ above e. subst (λ x. ((range_of (family has_tasks has_third) x).0 ≤ 0) × (2 ≤ (range_of (family has_tasks has_third) x).1)) (same_Some 0 above e) (omega arith, omega arith);
 }
-cells (suc (suc zero)) l = record {
+cells has_tasks has_third (suc (suc zero)) l = record {
   parent = λ above e. below_parent 2 1 above (omega arith) e;
   some_leaf = omega arith;
   leaves = omega arith;
-  inside = λ above e. subst (λ x. ((range_of family x).0 ≤ 0) × (1 ≤ (range_of family x).1)) (same_Some 1 above e) (omega arith, omega arith);
+  inside = λ above e. subst (λ x. ((range_of (family has_tasks has_third) x).0 ≤ 0) × (1 ≤ (range_of (family has_tasks has_third) x).1)) (same_Some 1 above e) (omega arith, omega arith);
 }
-cells (suc (suc (suc zero))) l = record {
+cells has_tasks has_third (suc (suc (suc zero))) l = record {
   parent = λ above e. below_parent 3 1 above (omega arith) e;
   some_leaf = omega arith;
   leaves = omega arith;
-  inside = λ above e. subst (λ x. ((range_of family x).0 ≤ 1) × (2 ≤ (range_of family x).1)) (same_Some 1 above e) (omega arith, omega arith);
+  inside = λ above e. subst (λ x. ((range_of (family has_tasks has_third) x).0 ≤ 1) × (2 ≤ (range_of (family has_tasks has_third) x).1)) (same_Some 1 above e) (omega arith, omega arith);
 }
-cells (suc (suc (suc (suc cell)))) l = absurd (omega arith)
+cells has_tasks has_third (suc (suc (suc (suc cell)))) l = absurd (omega arith)
 
 -- a list of one element
-only : (x y : ℕ) → Contains (x ∷ []) y → x ≡ y
+pub only : (x y : ℕ) → Contains (x ∷ []) y → x ≡ y
 only x y c = elim (Contains-cons_cases x [] y c) [ inl e ↦ e | inr n ↦ absurd (Contains-nil y n) ]
 
-tasks : (task : ℕ) → task < 2 → IsTaskShape family task
-tasks zero l = record {
+-- a list of two elements
+either : (x y z : ℕ) → Contains (x ∷ y ∷ []) z → (x ≡ z) ⊎ (y ≡ z)
+either x y z c = elim (Contains-cons_cases x (y ∷ []) z c) [ inl e ↦ inl e | inr h ↦ inr (only y z h) ]
+
+-- the successors of the first two tasks
+after_0 : (has_third : Bool) (after : ℕ) → Contains (task_0 has_third).successors after → (0 < after) × (after < length (tasks_where true has_third))
+after_0 false after h = subst (λ x. (0 < x) × (x < 2)) (only 1 after h) (omega arith, omega arith)
+after_0 true after h = elim (either 1 2 after h) [
+  | inl e ↦ subst (λ x. (0 < x) × (x < 3)) e (omega arith, omega arith)
+  | inr e ↦ subst (λ x. (0 < x) × (x < 3)) e (omega arith, omega arith)
+]
+
+-- two numbers that differ are each once in a list
+both_once : (x y z : ℕ) → (x ≡ y → ⊥) → count_by (λ s. eqb s z) (x ∷ y ∷ []) ≤ 1
+both_once x y z n =
+    let a = sum_by-cons (λ s. cond (eqb s z) 1 0) x (y ∷ []) in
+    let b = count_by-le-length (λ s. eqb s z) (y ∷ []) in
+    elim (cases_eq x z) [
+      | inl e ↦ let none = count-none (y ∷ []) z (λ c. n (e ∙ sym (only y z c))) in let t = one_if-le x z in omega arith
+      | inr m ↦ let t = one_if-other x z m in omega arith
+    ]
+
+third_apart : (has_tasks has_third : Bool) → AreApart (family has_tasks has_third) 2 3
+unfolding ancestors
+third_apart has_tasks has_third = record {
+  not_above = λ c. elim c [ inl e ↦ omega arith | inr h ↦ elim (either 1 0 2 h) [ inl e ↦ omega arith | inr e ↦ omega arith ] ];
+  not_below = λ c. elim c [ inl e ↦ omega arith | inr h ↦ elim (either 1 0 3 h) [ inl e ↦ omega arith | inr e ↦ omega arith ] ];
+}
+
+tasks : (has_tasks has_third : Bool) (task : ℕ) → task < length (tasks_where has_tasks has_third) → IsTaskShape (family has_tasks has_third) task
+tasks false has_third task l = absurd (omega arith)
+tasks true false zero l = record {
   first = omega arith;
   second = λ cell e. absurd (none-some cell e);
-  later = λ after h. subst (λ x. (0 < x) × (x < 2)) (only 1 after h) (omega arith, omega arith);
+  later = after_0 false;
   once = λ after. count_by-le-length (λ s. eqb s after) (1 ∷ []);
 }
-tasks (suc zero) l = record {
+tasks true true zero l = record {
+  first = omega arith;
+  second = λ cell e. absurd (none-some cell e);
+  later = after_0 true;
+  once = λ after. both_once 1 2 after (λ e. omega arith);
+}
+tasks true false (suc zero) l = record {
   first = omega arith;
   second = λ cell e. absurd (none-some cell e);
   later = λ after h. absurd (Contains-nil after h);
   once = λ after. omega arith;
 }
-tasks (suc (suc task)) l = absurd (omega arith)
+tasks true true (suc zero) l = record {
+  first = omega arith;
+  second = λ cell e. absurd (none-some cell e);
+  later = λ after h. subst (λ x. (1 < x) × (x < 3)) (only 2 after h) (omega arith, omega arith);
+  once = λ after. count_by-le-length (λ s. eqb s after) (2 ∷ []);
+}
+tasks true true (suc (suc zero)) l = record {
+  first = omega arith;
+  second = λ cell e. subst (λ x. (x < 4) × AreApart (family true true) 2 x) (same_Some 3 cell e) (omega arith, third_apart true true);
+  later = λ after h. absurd (Contains-nil after h);
+  once = λ after. omega arith;
+}
+tasks true false (suc (suc task)) l = absurd (omega arith)
+tasks true true (suc (suc (suc task))) l = absurd (omega arith)
 
-pub family_is : IsShape family
-family_is = record {
+few : (has_tasks has_third : Bool) → length (tasks_where has_tasks has_third) < 2 ^ 32
+few false has_third = lit< tt
+few true false = lit< tt
+few true true = lit< tt
+
+pub family_is : (has_tasks has_third : Bool) → IsShape (family has_tasks has_third)
+family_is has_tasks has_third = record {
   one_range_each = refl;
   few_cells = lit< tt;
   few_leaves = lit< tt;
-  few_tasks = lit< tt;
-  cells = cells;
-  own_leaves = own_leaves;
-  tasks = tasks;
+  few_tasks = few has_tasks has_third;
+  cells = cells has_tasks has_third;
+  own_leaves = own_leaves has_tasks has_third;
+  tasks = tasks has_tasks has_third;
 }
 
--- each task is on one leaf
-leaves_of_both : (task : ℕ) → task < 2 → length (first_leaves family task) ≡ 1
-leaves_of_both zero l = refl
-leaves_of_both (suc zero) l = refl
-leaves_of_both (suc (suc task)) l = absurd (omega arith)
+-- each task is on one leaf of each of its cells
+pub leaves_of_first : (has_tasks has_third : Bool) (task : ℕ) → task < length (tasks_where has_tasks has_third) → length (first_leaves (family has_tasks has_third) task) ≡ 1
+leaves_of_first false has_third task l = absurd (omega arith)
+leaves_of_first true false zero l = refl
+leaves_of_first true true zero l = refl
+leaves_of_first true false (suc zero) l = refl
+leaves_of_first true true (suc zero) l = refl
+leaves_of_first true true (suc (suc zero)) l = refl
+leaves_of_first true false (suc (suc task)) l = absurd (omega arith)
+leaves_of_first true true (suc (suc (suc task))) l = absurd (omega arith)
 
--- a task that marks its one block is added to it
-pub one_added : {B : Type 0} (fits : ℕ → B → Type 0) (done : B → List ℕ) (task : ℕ) (before : List B) (d0 new : B) → task < 2 → length before ≡ length (first_leaves family task)
-    → ((leaf : ℕ) (b : B) → fits leaf b) → ((t : ℕ) → Contains (done new) t ↔ (Contains (done (get_or before 0 d0)) t ⊎ (t ≡ task)))
-    → AreAdded family task fits done (first_leaves family task) before (set before 0 new)
-one_added fits done task [] d0 new l e f m = let n = leaves_of_both task l in absurd (omega arith)
-one_added fits done task (b ∷ c ∷ bs) d0 new l e f m = let n = leaves_of_both task l in absurd (omega arith)
-one_added {B} fits done task (b ∷ []) d0 new l e f m = record {
-  one_each = refl;
-  added = λ k d h. go k d (subst (λ n. k < n) (leaves_of_both task l) h);
-}
-  where
-    go : (k : ℕ) (d : B) → k < 1 → IsAdded task (fits (get_or (first_leaves family task) k 0) (get_or (new ∷ []) k d)) (done (get_or (b ∷ []) k d)) (done (get_or (new ∷ []) k d))
-    go zero d h = record { fitting = f (get_or (first_leaves family task) zero 0) new; tasks = m }
-    go (suc k) d h = absurd (omega arith)
+pub leaves_of_second : (has_tasks has_third : Bool) (task : ℕ) → task < length (tasks_where has_tasks has_third) → length (second_leaves (family has_tasks has_third) task) ≤ 1
+leaves_of_second false has_third task l = absurd (omega arith)
+leaves_of_second true false zero l = omega arith
+leaves_of_second true true zero l = omega arith
+leaves_of_second true false (suc zero) l = omega arith
+leaves_of_second true true (suc zero) l = omega arith
+leaves_of_second true true (suc (suc zero)) l = omega arith
+leaves_of_second true false (suc (suc task)) l = absurd (omega arith)
+leaves_of_second true true (suc (suc (suc task))) l = absurd (omega arith)
 
--- no task is before task 0
-no_edge : (task : ℕ) → IsEdge family task 0 → ⊥
-no_edge zero e = let one = only 1 0 e in absurd (omega arith)
-no_edge (suc zero) e = Contains-nil 0 e
-no_edge (suc (suc task)) e = Contains-nil 0 e
+module _ {B : Type 0} (shape : Shape) (fits : ℕ → B → Type 0) (done : B → List ℕ) (task : ℕ) (leaves : List ℕ) (f : (leaf : ℕ) (b : B) → fits leaf b) where
+  -- a task that marks its one block is added to it
+  pub one_added : (before : List B) (d0 new : B) → length leaves ≤ 1 → 0 < length before → length before ≡ length leaves
+      → ((other : ℕ) → Contains (done new) other ↔ (Contains (done (get_or before 0 d0)) other ⊎ (other ≡ task))) → AreAdded shape task fits done leaves before (set before 0 new)
+  one_added [] d0 new l some e m = absurd (omega arith)
+  one_added (b ∷ c ∷ bs) d0 new l some e m = absurd (omega arith)
+  one_added (b ∷ []) d0 new l some e m = record { one_each = refl; added = λ k d h. go k d (omega arith) }
+    where
+      go : (k : ℕ) (d : B) → k < 1 → IsAdded task (fits (get_or leaves k 0) (get_or (new ∷ []) k d)) (done (get_or (b ∷ []) k d)) (done (get_or (new ∷ []) k d))
+      go zero d h = record { fitting = f (get_or leaves zero 0) new; tasks = m }
+      go (suc k) d h = absurd (omega arith)
 
-no_path : (path : List ℕ) (task : ℕ) → IsPath family task path 0 → ⊥
-no_path [] task e = no_edge task e
-no_path (next ∷ path) task p = no_path path next p.1
+  -- one block is ready as it is
+  pub one_ready : (leaf : ℕ) (b : B) → (Contains (done b) task → ⊥) → ((earlier : ℕ) → Precedes shape earlier task → Touches shape earlier leaf → Contains (done b) earlier)
+      → AreReady shape task fits done (leaf ∷ []) (b ∷ [])
+  one_ready leaf b n earlier_done = record { one_each = refl; ready = go }
+    where
+      go : (k : ℕ) (d : B) → k < 1 → IsReady shape task (get_or (leaf ∷ []) k 0) (fits (get_or (leaf ∷ []) k 0) (get_or (b ∷ []) k d)) (done (get_or (b ∷ []) k d))
+      go zero d h = record { fitting = f leaf b; not_done = n; before = earlier_done }
+      go (suc k) d h = absurd (omega arith)
 
 -- a block on which nothing is done is ready for task 0
-pub fresh_is_ready : {B : Type 0} (fits : ℕ → B → Type 0) (done : B → List ℕ) (b : B) → ((leaf : ℕ) (x : B) → fits leaf x) → done b ≡ [] → AreReady family 0 fits done (0 ∷ []) (b ∷ [])
-fresh_is_ready {B} fits done b f e = record { one_each = refl; ready = go }
+pub fresh_is_ready : {B : Type 0} (fits : ℕ → B → Type 0) (done : B → List ℕ) (b : B) → ((leaf : ℕ) (x : B) → fits leaf x) → done b ≡ [] → AreReady (family true false) 0 fits done (0 ∷ []) (b ∷ [])
+fresh_is_ready fits done b f e =
+    one_ready (family true false) fits done 0 (0 ∷ []) f 0 b (λ c. Contains-nil 0 (subst (λ xs. Contains xs 0) e c))
+    (λ earlier precedes touches. let up = path-up (family true false) earlier precedes.0 0 (family_is true false) precedes.1 in absurd (omega arith))
+
+-- the first leaf is ready for the third task where both are done on it, and the second leaf where none is
+pub both_before : {B : Type 0} (fits : ℕ → B → Type 0) (done : B → List ℕ) (b : B) → ((leaf : ℕ) (x : B) → fits leaf x) → done b ≡ 0 ∷ 1 ∷ [] → AreReady (family true true) 2 fits done (0 ∷ []) (b ∷ [])
+both_before fits done b f e =
+    one_ready (family true true) fits done 2 (0 ∷ []) f 0 b
+    (λ c. elim (either 0 1 2 (subst (λ xs. Contains xs 2) e c)) [ inl h ↦ omega arith | inr h ↦ omega arith ])
+    (λ earlier precedes touches. subst (λ xs. Contains xs earlier) (sym e) (is_below earlier (path-up (family true true) earlier precedes.0 2 (family_is true true) precedes.1)))
   where
-    go : (k : ℕ) (d : B) → k < 1 → IsReady family 0 (get_or (0 ∷ []) k 0) (fits (get_or (0 ∷ []) k 0) (get_or (b ∷ []) k d)) (done (get_or (b ∷ []) k d))
-    go zero d h = record {
-      fitting = f 0 b;
-      not_done = λ c. Contains-nil 0 (subst (λ xs. Contains xs 0) e c);
-      before = λ earlier precedes touches. absurd (no_path precedes.0 earlier precedes.1);
-    }
-    go (suc k) d h = absurd (omega arith)
+    is_below : (earlier : ℕ) → earlier < 2 → Contains (0 ∷ 1 ∷ []) earlier
+    is_below zero l = (0, omega arith, refl)
+    is_below (suc zero) l = (1, omega arith, refl)
+    is_below (suc (suc earlier)) l = absurd (omega arith)
+
+untouched : (earlier : ℕ) → earlier < 2 → Touches (family true true) earlier 1 → ⊥
+unfolding leaves_of
+untouched zero l t = let e = only 0 1 t in omega arith
+untouched (suc zero) l t = let e = only 0 1 t in omega arith
+untouched (suc (suc earlier)) l t = omega arith
+
+pub none_before : {B : Type 0} (fits : ℕ → B → Type 0) (done : B → List ℕ) (b : B) → ((leaf : ℕ) (x : B) → fits leaf x) → done b ≡ [] → AreReady (family true true) 2 fits done (1 ∷ []) (b ∷ [])
+none_before fits done b f e =
+    one_ready (family true true) fits done 2 (1 ∷ []) f 1 b (λ c. Contains-nil 2 (subst (λ xs. Contains xs 2) e c))
+    (λ earlier precedes touches. absurd (untouched earlier (path-up (family true true) earlier precedes.0 2 (family_is true true) precedes.1) touches))

@@ -4,10 +4,13 @@ pub mod Chains
 pub mod Claims
 pub mod Copied
 pub mod Counts
+pub mod DoneSteps
 pub mod Edges
 pub mod Events
 pub mod Exclusive
+pub mod FamilyMarks
 pub mod FamilyShape
+pub mod JoinedSeat
 pub mod Just
 pub mod Locks
 pub mod LocksKept
@@ -21,6 +24,8 @@ pub mod Opening
 pub mod Outs
 pub mod Owned
 pub mod Played
+pub mod ReleasedEdges
+pub mod ReturnedRuns
 pub mod Running
 pub mod RunningClaim
 pub mod RunningKept
@@ -28,6 +33,8 @@ pub mod RunningLeaves
 pub mod RunningRelease
 pub mod RunningReturn
 pub mod Tasks
+pub mod Totals
+pub mod UnreleasedEdges
 pub mod Walks
 pub mod Views
 pub mod SoundKept

@@ -158,9 +158,10 @@ cells_kept shape core seat view word value l same apart s =
     }
 
 -- the word of a cell is far from the end of 64 bits
-pub word_fits : (shape : Shape) (core : Core) → IsShape shape → length core.views < 2 ^ 32 → IsSoundCells shape core → (cell : ℕ) → cell < length shape.parents
+pub word_fits : (shape : Shape) (core : Core) → IsShape shape → IsSoundCells shape core → (cell : ℕ) → cell < length shape.parents
     → slice_index core.words (cell_word shape cell) < 2 ^ 35
-word_fits shape core is few s cell l =
+word_fits shape core is s cell l =
+    let few = is.few_cells in
     let a = s.cell_words cell l in
     let b = s.one_lock cell in
     let c = raises_few shape core is s cell in

@@ -1,5 +1,5 @@
 -- Each step that is allowed keeps the laws of the locks.
-use Rattle.std.proofs.Common.{ℕ, ◌^◌, ◌<◌, length}
+use Rattle.std.proofs.Common.{ℕ, ◌<◌, length}
 use Rattle.qs_core.specs.declared.event.Event.{Event}
 use Rattle.qs_core.specs.declared.event.Step.{Step}
 use Rattle.qs_core.specs.declared.event.Step.TheVariants.{Lock, Raise, Lower, Unlock, Fetch, Return, Claim, Release}
@@ -15,17 +15,17 @@ use Rattle.qs_core.proofs.LocksUnlock.{unlock_kept}
 use Rattle.qs_core.proofs.LocksLeaf.{fetch_kept, return_kept}
 use Rattle.qs_core.proofs.LocksTask.{claim_kept, release_kept}
 
-pub step_keeps_locks : (shape : Shape) (core : Core) (seat : ℕ) (step : Step) → IsShape shape → length core.views < 2 ^ 32 → seat < length core.views → IsSoundLocks shape core
+pub step_keeps_locks : (shape : Shape) (core : Core) (seat : ℕ) (step : Step) → IsShape shape → seat < length core.views → IsSoundLocks shape core
     → Allowed shape (view_at core.views seat) step → IsSoundLocks shape (stepped shape core seat step)
-step_keeps_locks shape core seat (Lock cell) is few l s can = lock_kept shape core seat cell l s can
-step_keeps_locks shape core seat Raise is few l s can = raise_kept shape core seat is few l s can
-step_keeps_locks shape core seat Lower is few l s can = lower_kept shape core seat is few l s can
-step_keeps_locks shape core seat Unlock is few l s can = unlock_kept shape core seat is few l s can
-step_keeps_locks shape core seat (Fetch leaf) is few l s can = fetch_kept shape core seat leaf is l s can
-step_keeps_locks shape core seat (Return leaf) is few l s can = return_kept shape core seat leaf l s can
-step_keeps_locks shape core seat (Claim task) is few l s can = claim_kept shape core seat task l s can
-step_keeps_locks shape core seat Release is few l s can = release_kept shape core seat l s can
+step_keeps_locks shape core seat (Lock cell) is l s can = lock_kept shape core seat cell l s can
+step_keeps_locks shape core seat Raise is l s can = raise_kept shape core seat is l s can
+step_keeps_locks shape core seat Lower is l s can = lower_kept shape core seat is l s can
+step_keeps_locks shape core seat Unlock is l s can = unlock_kept shape core seat is l s can
+step_keeps_locks shape core seat (Fetch leaf) is l s can = fetch_kept shape core seat leaf is l s can
+step_keeps_locks shape core seat (Return leaf) is l s can = return_kept shape core seat leaf l s can
+step_keeps_locks shape core seat (Claim task) is l s can = claim_kept shape core seat task l s can
+step_keeps_locks shape core seat Release is l s can = release_kept shape core seat l s can
 
-pub locks_kept : (shape : Shape) (core : Core) (event : Event) → IsShape shape → length core.views < 2 ^ 32 → IsSound shape core → IsAllowed shape core event
+pub locks_kept : (shape : Shape) (core : Core) (event : Event) → IsShape shape → IsSound shape core → IsAllowed shape core event
     → IsSoundLocks shape (effect shape core event)
-locks_kept shape core event is few s can = step_keeps_locks shape core event.seat event.step is few can.seat (locks_of_sound shape core s) can.step
+locks_kept shape core event is s can = step_keeps_locks shape core event.seat event.step is can.seat (locks_of_sound shape core s) can.step

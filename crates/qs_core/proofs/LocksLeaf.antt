@@ -11,7 +11,7 @@ use Rattle.qs_core.specs.Sound.{IsOut, IsView, outs_of}
 use Rattle.qs_core.proofs.Counts.{Contains-without, count_by-without, count_none, counted, each_cons, one_if, one_if-other, one_if-same, view_at-is, without_keeps}
 use Rattle.qs_core.proofs.Exclusive.{one_seat_each}
 use Rattle.qs_core.proofs.Locks.{IsSoundLocks, cells_kept, cells_of_locks, joined, leaves_of_locks}
-use Rattle.qs_core.proofs.Outs.{leaves_moved, out_by_chains, out_count, outs_change, owns_by_chains}
+use Rattle.qs_core.proofs.Outs.{above_by_chains, leaves_moved, out_by_chains, out_count, outs_change}
 
 -- the view with a leaf out
 abbrev with_leaf : View → ℕ → View
@@ -39,7 +39,7 @@ module _ (shape : Shape) (core : Core) (seat leaf : ℕ) (is : IsShape shape) (l
             can.home (subst (λ (w : View). Contains w.out leaf) same h)
         | inr n ↦
             let o = s.outs other theirs leaf v h in
-            one_seat_each shape core (cells_of_locks shape core s) is seat other view theirs can.cell o.cell leaf is_view v can.owned o.owned can.below o.below n
+            one_seat_each shape core (cells_of_locks shape core s) is seat other view theirs can.above.cell o.above.cell leaf is_view v can.above.owned o.above.owned can.above.below o.above.below n
       ]
 
   none_have_it : (other : ℕ) (theirs : View) → IsView core other theirs → out_count leaf theirs.out ≡ 0
@@ -67,9 +67,7 @@ module _ (shape : Shape) (core : Core) (seat leaf : ℕ) (is : IsShape shape) (l
       each_cons (IsOut shape new_view) leaf view.out
       (record {
         is_leaf = can.is_leaf;
-        cell = can.cell;
-        owned = owns_by_chains shape view new_view can.cell refl can.owned;
-        below = can.below;
+        above = above_by_chains shape view new_view leaf refl can.above;
         left = λ running e. subst (λ r. MayFetch r leaf) e can.left;
       })
       (λ c h. let o = s.outs seat view c is_view h in out_by_chains shape view new_view c refl o.left o)

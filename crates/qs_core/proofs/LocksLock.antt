@@ -1,22 +1,19 @@
 -- A step that locks a cell keeps the laws of the locks.
-use Rattle.std.proofs.Common.{◌≡◌, ℕ, ◌+◌, ◌<◌, false, eqb, List, ◌∷◌, length, take, set, slice_index, count_by, refl, sym, ap, inl, inr, arith, eqb-true}
+use Rattle.std.proofs.Common.{◌≡◌, ℕ, ◌+◌, ◌<◌, eqb, List, ◌∷◌, length, take, set, slice_index, count_by, refl, sym, ap, inl, inr, arith, eqb-true}
 use Rattle.std.proofs.lemmas.Bool.{cases_eq}
 use Rattle.std.proofs.lemmas.List.Sums.{sum_by-cons}
 use Rattle.qs_core.specs.declared.event.Step.TheVariants.{Lock}
 use Rattle.qs_core.specs.Shape.{Shape, ancestors}
 use Rattle.qs_core.specs.Core.{Chain, Core, View, cell_word, view_at}
-use Rattle.qs_core.specs.Steps.{CanLock, ancestor_at, stepped}
+use Rattle.qs_core.specs.Steps.{CanLock, ancestor_at, new_chain, stepped}
 use Rattle.qs_core.specs.Sound.{IsView, locks_of, raises_of}
 use Rattle.qs_core.proofs.Counts.{one_if, one_if-other, one_if-same, view_at-is}
 use Rattle.qs_core.proofs.Chains.{AreListed-lock, AreListed-still, StaysFree, listed, lock_count, locks_change, raise_count, raises_change, raises_its_ancestors}
 use Rattle.qs_core.proofs.Locks.{CellChange, IsSoundLocks, by_test, cells_moved, cells_of_locks, joined, leaves_of_locks, moved}
 use Rattle.qs_core.proofs.Outs.{leaves_kept_none}
 
--- a chain of one locked cell, and a view with it before its others
-abbrev new_chain : ℕ → Chain
-new_chain cell = record { cell = cell; raises = 0; stopped = false; giving = false }
-
-abbrev with_lock : View → ℕ → View
+-- a view with the chain of a cell just locked before its others
+abbrev pub with_lock : View → ℕ → View
 with_lock view cell = record view { chains = new_chain cell ∷ view.chains }
 
 -- the new chain locks its cell and raises nothing
@@ -68,7 +65,7 @@ module _ (shape : Shape) (core : Core) (seat cell : ℕ) (l : seat < length core
     still = still free;
     new =
         let v : IsView core seat view = record { is = view_at-is core.views seat l } in
-        AreListed-lock shape after (new_chain cell) view.chains refl can.is_cell can.few can.complete
+        AreListed-lock shape after (new_chain cell) view.chains refl can.is_cell can.room.few can.room.complete
         (AreListed-still shape core.views after view.chains (still free seat view v) (listed shape core view (s.chains seat view v)));
   }
 
@@ -76,7 +73,7 @@ module _ (shape : Shape) (core : Core) (seat cell : ℕ) (l : seat < length core
   locked free =
       joined shape core seat (with_lock view cell) (cell_word shape cell) 1 (omega arith) s
       (cells_moved shape core seat (with_lock view cell) cell 1 s.words l can.is_cell (change free) (cells_of_locks shape core s))
-      (leaves_kept_none shape core seat (with_lock view cell) (cell_word shape cell) 1 l refl can.none_out (λ leaf h. let c = can.is_cell in omega arith) (leaves_of_locks shape core s))
+      (leaves_kept_none shape core seat (with_lock view cell) (cell_word shape cell) 1 l refl can.free.none_out (λ leaf h. let c = can.is_cell in omega arith) (leaves_of_locks shape core s))
 
   pub lock_kept : IsSoundLocks shape (stepped shape core seat (Lock cell))
   lock_kept =

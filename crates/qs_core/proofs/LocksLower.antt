@@ -1,9 +1,9 @@
 -- A step that lowers the ancestor raised last keeps the laws of the locks.
-use Rattle.std.proofs.Common.{◌≡◌, ℕ, suc, ◌+◌, ◌-◌, ◌*◌, ◌^◌, ◌%◌, ◌<◌, ◌≤◌, true, List, ◌∷◌, length, set, slice_index, refl, sym, ap, subst, ◌∙◌, arith}
+use Rattle.std.proofs.Common.{◌≡◌, ℕ, suc, ◌+◌, ◌-◌, ◌*◌, ◌^◌, ◌%◌, ◌<◌, ◌≤◌, List, ◌∷◌, length, set, slice_index, refl, sym, ap, subst, ◌∙◌, arith}
 use Rattle.qs_core.specs.declared.event.Step.TheVariants.{Lower}
 use Rattle.qs_core.specs.Shape.{Shape, IsShape, ancestors}
 use Rattle.qs_core.specs.Core.{Chain, Core, View, cell_word, view_at}
-use Rattle.qs_core.specs.Steps.{CanLower, ancestor_at, newest, rest, stepped, with_newest}
+use Rattle.qs_core.specs.Steps.{CanLower, ancestor_at, lowered_chain, newest, rest, stepped, with_newest}
 use Rattle.qs_core.specs.Sound.{IsMarked, IsView, locks_of, raises_of}
 use Rattle.qs_core.proofs.Ancestors.{ancestor_is_cell}
 use Rattle.qs_core.proofs.Counts.{Contains-first, one_if, one_if-other, one_if-same, view_at-is}
@@ -11,11 +11,7 @@ use Rattle.qs_core.proofs.Chains.{AreListed, AreListed-change, AreListed-still, 
 use Rattle.qs_core.proofs.Locks.{CellChange, IsSoundLocks, cells_moved, cells_of_locks, joined, leaves_of_locks, same_locks, two_less, word_fits}
 use Rattle.qs_core.proofs.Outs.{leaves_kept_none}
 
--- the chain with one raise less
-abbrev lowered_chain : Chain → Chain
-lowered_chain chain = record chain { raises = chain.raises - 1; giving = true }
-
-module _ (shape : Shape) (core : Core) (seat : ℕ) (is : IsShape shape) (few : length core.views < 2 ^ 32) (l : seat < length core.views) (s : IsSoundLocks shape core)
+module _ (shape : Shape) (core : Core) (seat : ℕ) (is : IsShape shape) (l : seat < length core.views) (s : IsSoundLocks shape core)
     (can : CanLower (view_at core.views seat)) where
   abbrev view : View
   view = view_at core.views seat
@@ -77,7 +73,7 @@ module _ (shape : Shape) (core : Core) (seat : ℕ) (is : IsShape shape) (few : 
   change : CellChange shape core seat new_view object ((seen + (2 ^ 64 - 2)) % 2 ^ 64)
   change = record {
     word_is =
-        let fits = word_fits shape core is few (cells_of_locks shape core s) object object_is_cell in
+        let fits = word_fits shape core is (cells_of_locks shape core s) object object_is_cell in
         let word : seen ≡ locks_of object core.views + 2 * raises_of shape object core.views = s.cell_words object object_is_cell in
         let locks = locks_after object in
         let raises = raises_change shape object core.views seat new_view l in

@@ -1,10 +1,10 @@
 -- A step that raises the next ancestor keeps the laws of the locks.
-use Rattle.std.proofs.Common.{◌≡◌, ℕ, suc, ◌+◌, ◌*◌, ◌^◌, ◌%◌, ◌<◌, ◌≤◌, Bool, eqb, List, ◌∷◌, length, set, slice_index, Contains, refl, sym, ap, subst, inl, inr, ◌∙◌, arith, true≢false, mod-eq_of_lt}
+use Rattle.std.proofs.Common.{◌≡◌, ℕ, suc, ◌+◌, ◌*◌, ◌^◌, ◌%◌, ◌<◌, ◌≤◌, eqb, List, ◌∷◌, length, set, slice_index, Contains, refl, sym, ap, subst, inl, inr, ◌∙◌, arith, true≢false, mod-eq_of_lt}
 use Rattle.std.proofs.lemmas.Bool.{cases_Bool, cases_lt, eqb-false}
 use Rattle.qs_core.specs.declared.event.Step.TheVariants.{Raise}
 use Rattle.qs_core.specs.Shape.{Shape, IsShape, ancestors}
 use Rattle.qs_core.specs.Core.{Chain, Core, Owns, View, cell_word, view_at}
-use Rattle.qs_core.specs.Steps.{CanRaise, ancestor_at, newest, rest, stepped, with_newest}
+use Rattle.qs_core.specs.Steps.{CanRaise, ancestor_at, newest, raised_chain, rest, stepped, with_newest}
 use Rattle.qs_core.specs.Sound.{IsMarked, IsOut, IsView, locks_of, raises_of}
 use Rattle.qs_core.proofs.Ancestors.{ancestor_is_cell}
 use Rattle.qs_core.proofs.Counts.{Contains-cons_cases, Contains-first, Contains-later, one_if, one_if-other, one_if-same, view_at-is}
@@ -12,11 +12,7 @@ use Rattle.qs_core.proofs.Chains.{AreListed, AreListed-change, AreListed-still, 
 use Rattle.qs_core.proofs.Locks.{CellChange, IsSoundLocks, cells_moved, cells_of_locks, joined, leaves_of_locks, same_locks, word_fits}
 use Rattle.qs_core.proofs.Outs.{leaves_kept}
 
--- the chain with one more ancestor raised
-abbrev raised_chain : Chain → Bool → Chain
-raised_chain chain stopped = record chain { raises = suc chain.raises; stopped = stopped }
-
-module _ (shape : Shape) (core : Core) (seat : ℕ) (is : IsShape shape) (few : length core.views < 2 ^ 32) (l : seat < length core.views) (s : IsSoundLocks shape core)
+module _ (shape : Shape) (core : Core) (seat : ℕ) (is : IsShape shape) (l : seat < length core.views) (s : IsSoundLocks shape core)
     (can : CanRaise shape (view_at core.views seat)) where
   abbrev view : View
   view = view_at core.views seat
@@ -31,7 +27,7 @@ module _ (shape : Shape) (core : Core) (seat : ℕ) (is : IsShape shape) (few : 
   seen = slice_index core.words (cell_word shape object)
 
   abbrev new : Chain
-  new = raised_chain old (eqb (seen % 2) 1)
+  new = raised_chain old seen
 
   abbrev new_view : View
   new_view = with_newest view new
@@ -95,7 +91,7 @@ module _ (shape : Shape) (core : Core) (seat : ℕ) (is : IsShape shape) (few : 
   change : CellChange shape core seat new_view object ((seen + 2) % 2 ^ 64)
   change = record {
     word_is =
-        let fits = word_fits shape core is few (cells_of_locks shape core s) object object_is_cell in
+        let fits = word_fits shape core is (cells_of_locks shape core s) object object_is_cell in
         let word : seen ≡ locks_of object core.views + 2 * raises_of shape object core.views = s.cell_words object object_is_cell in
         let locks = locks_after object in
         let raises = raises_change shape object core.views seat new_view l in
@@ -125,7 +121,7 @@ module _ (shape : Shape) (core : Core) (seat : ℕ) (is : IsShape shape) (few : 
   still_out : (leaf : ℕ) → Contains new_view.out leaf → IsOut shape new_view leaf
   still_out leaf h =
       let o = s.outs seat view leaf is_view h in
-      record { is_leaf = o.is_leaf; cell = o.cell; owned = still_owned o.cell o.owned; below = o.below; left = o.left }
+      record { is_leaf = o.is_leaf; above = record { cell = o.above.cell; owned = still_owned o.above.cell o.above.owned; below = o.above.below }; left = o.left }
 
   pub raise_kept : IsSoundLocks shape (stepped shape core seat Raise)
   raise_kept =

@@ -23,7 +23,7 @@ claim_kept shape core seat task l s can =
     (λ e.
     joined shape core seat new_view (task_word shape task) claimed_word (omega arith) s
     (cells_kept shape core seat new_view (task_word shape task) claimed_word l refl (λ cell h. omega arith) (cells_of_locks shape core s))
-    (leaves_kept_none shape core seat new_view (task_word shape task) claimed_word l refl can.none_out (λ leaf h. omega arith) (leaves_of_locks shape core s)))
+    (leaves_kept_none shape core seat new_view (task_word shape task) claimed_word l refl can.free.none_out (λ leaf h. omega arith) (leaves_of_locks shape core s)))
     s
 
 -- nothing is out where a task runs with no leaf left to return

@@ -15,7 +15,7 @@ use Rattle.qs_core.proofs.Outs.{leaves_kept_none}
 abbrev without_newest : View → View
 without_newest view = record view { chains = rest view.chains }
 
-module _ (shape : Shape) (core : Core) (seat : ℕ) (is : IsShape shape) (few : length core.views < 2 ^ 32) (l : seat < length core.views) (s : IsSoundLocks shape core)
+module _ (shape : Shape) (core : Core) (seat : ℕ) (is : IsShape shape) (l : seat < length core.views) (s : IsSoundLocks shape core)
     (can : CanUnlock (view_at core.views seat)) where
   abbrev view : View
   view = view_at core.views seat
@@ -64,7 +64,7 @@ module _ (shape : Shape) (core : Core) (seat : ℕ) (is : IsShape shape) (few : 
   change : CellChange shape core seat new_view old.cell ((seen + (2 ^ 64 - 1)) % 2 ^ 64)
   change = record {
     word_is =
-        let fits = word_fits shape core is few (cells_of_locks shape core s) old.cell object_is_cell in
+        let fits = word_fits shape core is (cells_of_locks shape core s) old.cell object_is_cell in
         let word : seen ≡ locks_of old.cell core.views + 2 * raises_of shape old.cell core.views = s.cell_words old.cell object_is_cell in
         let locks = locks_after old.cell in
         let raises = raises_change shape old.cell core.views seat new_view l in

@@ -11,6 +11,7 @@ use Rattle.qs_core.specs.Shape.{Shape, TaskShape, IsShape, edges_into, task_at, 
 use Rattle.qs_core.specs.Core.{Chain, View, Running, empty_view, opening, cell_word, leaf_word, task_word, word_count, claimed_word}
 use Rattle.qs_core.specs.Sound.{IsView, IsClaimed, AreChains, left_in, unclaimed_edges, unreleased}
 use Rattle.qs_core.specs.Laws.{OpeningIsSound}
+use Rattle.qs_core.proofs.Chains.{empty_chains}
 use Rattle.qs_core.proofs.Edges.{sum_by-places, sum_by-range_same}
 use Rattle.qs_core.proofs.Views.{task_at-get_or}
 
@@ -78,7 +79,7 @@ edges_into-le shape task s =
     omega arith
 
 -- no task is claimed at the opening
-none_claimed : (shape : Shape) (seats task : ℕ) → IsShape shape → task < length shape.tasks → IsClaimed shape (opening shape seats) task → ⊥
+pub none_claimed : (shape : Shape) (seats task : ℕ) → IsShape shape → task < length shape.tasks → IsClaimed shape (opening shape seats) task → ⊥
 none_claimed shape seats task s l c =
     let w = word-of_task shape seats task l in
     let m = edges_into-le shape task s in
@@ -104,13 +105,7 @@ unreleased-all shape seats task s =
 
 -- no view of the opening has a chain
 chains_are : (shape : Shape) (seats seat : ℕ) (view : View) → IsView (opening shape seats) seat view → AreChains shape (opening shape seats) view
-chains_are shape seats seat view v =
-    subst (λ (w : View). AreChains shape (opening shape seats) w) (view_is_empty shape seats seat view v) (record {
-      few = omega arith;
-      cells = λ chain c. absurd (let l = c.1 in omega arith);
-      older = λ chain e. absurd (none-some chain e);
-      unmarked = λ chain k c. absurd (let l = c.1 in omega arith);
-    })
+chains_are shape seats seat view v = subst (λ (w : View). AreChains shape (opening shape seats) w) (view_is_empty shape seats seat view v) (empty_chains shape (opening shape seats))
 
 -- the opening state is sound
 pub opening_is_sound : OpeningIsSound

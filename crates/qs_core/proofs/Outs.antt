@@ -4,6 +4,7 @@ use Rattle.std.proofs.lemmas.Bool.{cases_eq}
 use Rattle.std.proofs.lemmas.List.{get_or-set_same, get_or-set_other}
 use Rattle.qs_core.specs.Shape.{Shape}
 use Rattle.qs_core.specs.Core.{Core, Owns, Running, View, leaf_word, view_at, word_count}
+use Rattle.qs_core.specs.Steps.{OwnsAbove}
 use Rattle.qs_core.specs.Sound.{IsOut, IsView, outs_of}
 use Rattle.qs_core.proofs.Counts.{Contains-nil, slice_get-set_cases, sum_by-set_view}
 use Rattle.qs_core.proofs.Locks.{IsSoundLeaves, moved}
@@ -74,7 +75,10 @@ pub owns_by_chains : (shape : Shape) (view after : View) (cell : ℕ) → after.
 owns_by_chains shape view after cell same o =
     record { chain = o.chain; stands = subst (λ xs. Contains xs o.chain) (sym same) o.stands; complete = o.complete; of_cell = o.of_cell }
 
+pub above_by_chains : (shape : Shape) (view after : View) (leaf : ℕ) → after.chains ≡ view.chains → OwnsAbove shape view leaf → OwnsAbove shape after leaf
+above_by_chains shape view after leaf same o = record { cell = o.cell; owned = owns_by_chains shape view after o.cell same o.owned; below = o.below }
+
 pub out_by_chains : (shape : Shape) (view after : View) (leaf : ℕ) → after.chains ≡ view.chains
     → ((running : Running) → after.running ≡ Some running → Contains running.leaves leaf) → IsOut shape view leaf → IsOut shape after leaf
 out_by_chains shape view after leaf same left o =
-    record { is_leaf = o.is_leaf; cell = o.cell; owned = owns_by_chains shape view after o.cell same o.owned; below = o.below; left = left }
+    record { is_leaf = o.is_leaf; above = above_by_chains shape view after leaf same o.above; left = left }

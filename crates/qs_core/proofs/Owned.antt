@@ -4,7 +4,7 @@ use Rattle.std.proofs.lemmas.Option.{none-some}
 use Rattle.qs_core.specs.Shape.{Shape}
 use Rattle.qs_core.specs.Core.{Chain, Owns, View}
 use Rattle.qs_core.specs.Held.{IsOwner}
-use Rattle.qs_core.proofs.Walks.{Contains-first, Contains-rest, Contains-cons_cases, Contains-nil}
+use Rattle.qs_core.proofs.Counts.{Contains-cons_cases, Contains-first, Contains-later, Contains-nil}
 
 -- a chain that stands and owns the cell
 owns-from : (shape : Shape) (view : View) (chains : List Chain) (chain : Chain) (cell : ℕ) → view.chains ≡ chains → Contains chains chain → IsOwner shape chain cell → Owns shape view cell
@@ -45,7 +45,7 @@ owned_two shape view newest older owned other e is is' cell = (
   ],
   λ s. elim s [
     | inl h ↦ owns-from shape view (newest ∷ older ∷ []) newest cell e (Contains-first newest (older ∷ [])) ((is cell).0 h)
-    | inr h ↦ owns-from shape view (newest ∷ older ∷ []) older cell e (Contains-rest newest (older ∷ []) older (Contains-first older [])) ((is' cell).0 h)
+    | inr h ↦ owns-from shape view (newest ∷ older ∷ []) older cell e (Contains-later newest (older ∷ []) older (Contains-first older [])) ((is' cell).0 h)
   ],
 )
 

@@ -1,51 +1,54 @@
 -- The machine after an event, and the place of the word that it changes.
-use Rattle.std.proofs.Common.{◌≡◌, ◌≢◌, ◌↔◌, ℕ, ◌-◌, ◌<◌, ◌≤◌, ◌^◌, List, [], ◌∷◌, length, get_or, set, slice_index, Contains, Option, Some, None, refl, sym, ap, ap₂, subst, ◌∙◌, arith, length-set}
-use Rattle.std.proofs.lemmas.Option.{slice_get_read, slice_get_within}
+use Rattle.std.proofs.Common.{◌≡◌, ◌≢◌, ◌↔◌, ℕ, ◌-◌, ◌<◌, ◌≤◌, List, [], ◌∷◌, length, get_or, set, slice_index, Contains, Option, Some, None, refl, sym, ap, ap₂, subst, ◌∙◌, arith, length-set}
+use Rattle.std.specs.List.{Any}
+use Rattle.std.proofs.lemmas.Option.{get_or_from_slice_get, slice_get_read, slice_get_within}
 use Rattle.qs_core.specs.declared.event.Event.{Event}
 use Rattle.qs_core.specs.declared.event.Note.{Note}
 use Rattle.qs_core.specs.declared.event.Step.{Step}
 use Rattle.qs_core.specs.declared.event.Step.TheVariants.{Lock, Raise, Lower, Unlock, Fetch, Return, Claim, Release}
 use Rattle.qs_core.specs.Shape.{Shape, IsShape, Touches, ancestors, or_else}
 use Rattle.qs_core.specs.Core.{Core, Running, View, empty_view, view_at, word_count}
-use Rattle.qs_core.specs.Sound.{IsDone, IsSound}
+use Rattle.qs_core.specs.Sound.{IsClaimed, IsDone, IsSound}
 use Rattle.qs_core.specs.Steps.{Allowed, CanRelease, IsAllowed, exchanged, newest, next_successor, object_of, rest, seen_by, view_after, word_of}
 use Rattle.qs_core.specs.Machine.{IsMachine, Machine, note_of, played}
 use Rattle.qs_core.specs.Held.{RunsOn}
-use Rattle.qs_core.specs.States.{IsOver, machine_of}
+use Rattle.qs_core.specs.States.{machine_of}
 use Rattle.qs_core.proofs.Ancestors.{ancestor_is_cell}
 use Rattle.qs_core.proofs.Chains.{newest_and_rest}
+use Rattle.qs_core.proofs.Counts.{Contains-first}
 use Rattle.qs_core.proofs.SoundKept.{sound_kept}
-use Rattle.qs_core.proofs.Views.{IsView-view_at, view_at_is}
-use Rattle.qs_core.proofs.Walks.{Contains-first}
+use Rattle.qs_core.proofs.Views.{IsView-view_at}
 
--- a task that is over on a leaf is done where it touches it
-record IsRunningOn (o : Option Running) (task leaf : ℕ) : Type 0 where
+-- a task that runs with a leaf left
+pub record IsRunningOn (o : Option Running) (task leaf : ℕ) : Type 0 where
   pub running : Running
   pub is : o ≡ Some running
   pub of_task : running.task ≡ task
   pub left : Contains running.leaves leaf
 
-runs_some : (o : Option Running) (task leaf : ℕ) → RunsOn o task leaf → IsRunningOn o task leaf
+pub runs_some : (o : Option Running) (task leaf : ℕ) → RunsOn o task leaf → IsRunningOn o task leaf
 runs_some None task leaf r = absurd r
 runs_some (Some running) task leaf r = record { running = running; is = refl; of_task = r.0; left = r.1 }
 
-pub done_is : (shape : Shape) (core : Core) (task leaf : ℕ) → Touches shape task leaf → IsOver shape core task leaf ↔ IsDone shape core task leaf
-done_is shape core task leaf t = (
-  λ o. record {
-    touches = t;
-    claimed = o.claimed;
-    none_left = λ seat view running v r h. o.none_left (record {
-      seat = seat;
-      within = slice_get_within core.views seat view v.is;
-      runs = subst (λ x. RunsOn x task leaf) (sym (ap (λ (w : View). w.running) (view_at_is core seat view v) ∙ r.is)) (r.of_task, h);
-    });
+-- a claimed task is done on a leaf that it touches where no view has the leaf of it left
+pub done_is : (shape : Shape) (core : Core) (task leaf : ℕ) → Touches shape task leaf → IsClaimed shape core task
+    → (Any (λ (v : View). RunsOn v.running task leaf) core.views → ⊥) ↔ IsDone shape core task leaf
+done_is shape core task leaf touches claimed = (
+  λ none. record {
+    touches = touches;
+    claimed = claimed;
+    none_left = λ seat view running v r h. none (
+      seat,
+      view,
+      slice_get_within core.views seat view v.is,
+      get_or_from_slice_get core.views seat view view v.is,
+      subst (λ x. RunsOn x task leaf) (sym r.is) (r.of_task, h),
+    );
   },
-  λ d. record {
-    claimed = d.claimed;
-    none_left = λ l.
-        let r = runs_some (view_at core.views l.seat).running task leaf l.runs in
-        d.none_left l.seat (view_at core.views l.seat) r.running (IsView-view_at core l.seat l.within) (record { is = r.is; of_task = r.of_task }) r.left;
-  },
+  λ done left.
+      let r = runs_some left.1.running task leaf left.4 in
+      let at = slice_get_read core.views (length core.views) left.0 left.1 refl left.2 (sym left.3) in
+      done.none_left left.0 left.1 r.running (record { is = at }) (record { is = r.is; of_task = r.of_task }) r.left,
 )
 
 -- the newest chain is of a cell, with no more raises than there are ancestors
@@ -98,9 +101,8 @@ machine_kept m event is can =
     length-set m.core.views event.seat (view_after m.shape (view_at m.core.views event.seat) event.step (seen_by m.shape m.core event.seat event.step)) in
     record {
       shape = is.shape;
-      sound = sound_kept m.shape m.core event is.shape is.few is.sound can;
+      sound = sound_kept m.shape m.core event is.shape is.sound can;
       one_note_each = notes ∙ is.one_note_each ∙ sym views;
-      few = subst (λ n. n < 2 ^ 32) (sym views) is.few;
     }
 
 -- a view that was read

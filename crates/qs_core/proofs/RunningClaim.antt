@@ -18,7 +18,7 @@ abbrev started : Shape → ℕ → Running
 started shape task = record { task = task; leaves = leaves_of shape task; successors = (task_at shape task).successors }
 
 -- the view after a claim that saw 0
-abbrev claiming : Shape → View → ℕ → View
+abbrev pub claiming : Shape → View → ℕ → View
 claiming shape view task = record view { running = Some (started shape task) }
 
 -- the words after it
@@ -76,7 +76,7 @@ unreleased-start : (shape : Shape) (core : Core) (seat task : ℕ) → CanStart 
 unreleased-start shape core seat task k t =
     let a = unclaimed-edges-start shape core seat task k t in
     let b = sum_by-views (λ (v : View). left_in v.running t) core.views seat (claiming shape (view_at core.views seat) task) k.seat_is in
-    let none : left_in (view_at core.views seat).running t ≡ 0 = ap (λ (o : Option Running). left_in o t) k.can.none_runs in
+    let none : left_in (view_at core.views seat).running t ≡ 0 = ap (λ (o : Option Running). left_in o t) k.can.free.none_runs in
     omega arith
 
 -- no edge into the task is left
@@ -239,4 +239,4 @@ tasks-claim shape core seat task s sound l can = go (cases_eq (slice_index core.
           | inr m ↦ word-other shape core.words (task_word shape task) _ t (λ e. m (omega arith))
         ])
         refl
-        (λ running r. absurd (none-some running (sym can.none_runs ∙ r))))
+        (λ running r. absurd (none-some running (sym can.free.none_runs ∙ r))))

@@ -1,5 +1,5 @@
 -- Each step keeps what a sound state keeps of its tasks.
-use Rattle.std.proofs.Common.{◌≡◌, ℕ, ◌^◌, ◌<◌, ◌==◌, false, [], ◌∷◌, length, slice_index, Option, Some, refl, sym, ◌∙◌, subst}
+use Rattle.std.proofs.Common.{◌≡◌, ℕ, ◌<◌, ◌==◌, [], ◌∷◌, length, slice_index, Option, Some, refl, sym, ◌∙◌, subst}
 use Rattle.std.proofs.lemmas.Bool.{cond_both}
 use Rattle.std.proofs.lemmas.Option.{none-some}
 use Rattle.qs_core.specs.declared.event.Event.{Event}
@@ -7,7 +7,7 @@ use Rattle.qs_core.specs.declared.event.Step.{Step}
 use Rattle.qs_core.specs.declared.event.Step.TheVariants.{Lock, Raise, Lower, Unlock, Fetch, Return, Claim, Release}
 use Rattle.qs_core.specs.Shape.{Shape, IsShape}
 use Rattle.qs_core.specs.Core.{Core, View, Running, cell_word, task_word, view_at}
-use Rattle.qs_core.specs.Steps.{Allowed, HasReturned, IsAllowed, effect, stepped, view_after}
+use Rattle.qs_core.specs.Steps.{Allowed, HasReturned, IsAllowed, effect, new_chain, stepped, view_after}
 use Rattle.qs_core.specs.Sound.{IsSound}
 use Rattle.qs_core.proofs.Tasks.{word-apart, word-other, LeavesTasks}
 use Rattle.qs_core.proofs.Views.{IsView-view_at, changed}
@@ -21,40 +21,40 @@ none_to_return : (old : Option Running) (running : Running) → HasReturned old 
 none_to_return old running h e = subst HasReturned e h
 
 -- the words of the tasks stay where the step is on another word
-same_words : (shape : Shape) (core : Core) (seat : ℕ) (step : Step) → IsShape shape → IsSound shape core → seat < length core.views → Allowed shape (view_at core.views seat) step → LeavesTasks step
+pub same_words : (shape : Shape) (core : Core) (seat : ℕ) (step : Step) → IsShape shape → IsSound shape core → seat < length core.views → Allowed shape (view_at core.views seat) step → LeavesTasks step
     → (t : ℕ) → slice_index (stepped shape core seat step).words (task_word shape t) ≡ slice_index core.words (task_word shape t)
 same_words shape core seat step s sound l a p t = word-other shape core.words _ _ t (word-apart shape core seat step t s sound l a p)
 
 -- each kind of step
-tasks-step : (shape : Shape) (core : Core) (seat : ℕ) (step : Step) → IsShape shape → length core.views < 2 ^ 32 → IsSound shape core → seat < length core.views → Allowed shape (view_at core.views seat) step
+tasks-step : (shape : Shape) (core : Core) (seat : ℕ) (step : Step) → IsShape shape → IsSound shape core → seat < length core.views → Allowed shape (view_at core.views seat) step
     → IsSoundTasks shape (stepped shape core seat step)
-tasks-step shape core seat (Lock cell) s few sound l a =
+tasks-step shape core seat (Lock cell) s sound l a =
     cond_both (slice_index core.words (cell_word shape cell) == 0)
-    (record (view_at core.views seat) { chains = record { cell = cell; raises = 0; stopped = false; giving = false } ∷ (view_at core.views seat).chains })
+    (record (view_at core.views seat) { chains = new_chain cell ∷ (view_at core.views seat).chains })
     (view_at core.views seat)
     (λ (new : View). IsSoundTasks shape (changed core (stepped shape core seat (Lock cell)).words seat new))
     (λ _. tasks-same shape core (stepped shape core seat (Lock cell)).words seat _ sound l (same_words shape core seat (Lock cell) s sound l a tt) refl
-    (λ running r. absurd (none-some running (sym a.none_runs ∙ r))))
+    (λ running r. absurd (none-some running (sym a.free.none_runs ∙ r))))
     (λ _. tasks-same shape core (stepped shape core seat (Lock cell)).words seat _ sound l (same_words shape core seat (Lock cell) s sound l a tt) refl
-    (λ running r. absurd (none-some running (sym a.none_runs ∙ r))))
-tasks-step shape core seat Raise s few sound l a =
+    (λ running r. absurd (none-some running (sym a.free.none_runs ∙ r))))
+tasks-step shape core seat Raise s sound l a =
     tasks-same shape core (stepped shape core seat Raise).words seat _ sound l (same_words shape core seat Raise s sound l a tt) refl
     (λ running r. absurd (none-some running (sym a.none_runs ∙ r)))
-tasks-step shape core seat Lower s few sound l a =
+tasks-step shape core seat Lower s sound l a =
     tasks-same shape core (stepped shape core seat Lower).words seat _ sound l (same_words shape core seat Lower s sound l a tt) refl
     (λ running r some. absurd (some (none_to_return (view_at core.views seat).running running a.returned r)))
-tasks-step shape core seat Unlock s few sound l a =
+tasks-step shape core seat Unlock s sound l a =
     tasks-same shape core (stepped shape core seat Unlock).words seat _ sound l (same_words shape core seat Unlock s sound l a tt) refl
     (λ running r some. absurd (some (none_to_return (view_at core.views seat).running running a.returned r)))
-tasks-step shape core seat (Fetch leaf) s few sound l a =
+tasks-step shape core seat (Fetch leaf) s sound l a =
     let view = view_at core.views seat in
     tasks-same shape core (stepped shape core seat (Fetch leaf)).words seat (view_after shape view (Fetch leaf) 0) sound l (same_words shape core seat (Fetch leaf) s sound l a tt) refl
     (λ running r some. OwnsJust-chains shape view (view_after shape view (Fetch leaf) 0) running.task refl ((sound.runs seat view running (IsView-view_at core seat l) r).owns some).0)
-tasks-step shape core seat (Return leaf) s few sound l a =
+tasks-step shape core seat (Return leaf) s sound l a =
     tasks-return shape core (stepped shape core seat (Return leaf)).words seat leaf sound l (same_words shape core seat (Return leaf) s sound l a tt)
-tasks-step shape core seat (Claim task) s few sound l a = tasks-claim shape core seat task s sound l a
-tasks-step shape core seat Release s few sound l a = tasks-release shape core seat s sound l few a
+tasks-step shape core seat (Claim task) s sound l a = tasks-claim shape core seat task s sound l a
+tasks-step shape core seat Release s sound l a = tasks-release shape core seat s sound l a
 
 -- each event
-pub tasks_kept : (shape : Shape) (core : Core) (event : Event) → IsShape shape → length core.views < 2 ^ 32 → IsSound shape core → IsAllowed shape core event → IsSoundTasks shape (effect shape core event)
-tasks_kept shape core event s few sound allowed = tasks-step shape core event.seat event.step s few sound allowed.seat allowed.step
+pub tasks_kept : (shape : Shape) (core : Core) (event : Event) → IsShape shape → IsSound shape core → IsAllowed shape core event → IsSoundTasks shape (effect shape core event)
+tasks_kept shape core event s sound allowed = tasks-step shape core event.seat event.step s sound allowed.seat allowed.step

@@ -1,16 +1,18 @@
 -- The tasks after a release.
-use Rattle.std.proofs.Common.{◌≡◌, ◌≢◌, ℕ, suc, ◌+◌, ◌-◌, ◌%◌, ◌^◌, ◌<◌, ◌≤◌, ◌==◌, cond, List, [], ◌∷◌, length, get_or, slice_index, slice_set, count_by, Contains, Option, Some, None, refl, sym, ap, ◌∙◌, subst, inl, inr, arith}
+use Rattle.std.proofs.Common.{◌≡◌, ◌≢◌, ℕ, suc, ◌+◌, ◌*◌, ◌-◌, ◌%◌, ◌^◌, ◌<◌, ◌≤◌, ◌==◌, cond, List, [], ◌∷◌, length, get_or, slice_index, slice_set, sum_by, count_by, Contains, Option, Some, None, refl, sym, ap, ◌∙◌, subst, inl, inr, arith}
 use Rattle.std.specs.List.{range_with_len}
 use Rattle.std.proofs.lemmas.Bool.{cases_eq, eq-eqb, ne_eqb, cond-true, cond-false, cond_both}
 use Rattle.std.proofs.lemmas.List.Elements.{All-from_get_or}
 use Rattle.std.proofs.lemmas.List.FromFn.{length-range_with_len, get_or-range_with_len}
 use Rattle.std.proofs.lemmas.List.Sums.{sum_by-cons, sum_by-le}
-use Rattle.std.proofs.lemmas.Option.{slice_get-get_or}
 use Rattle.qs_core.specs.declared.event.Step.TheVariants.{Release}
 use Rattle.qs_core.specs.Shape.{Shape, IsShape, task_at}
-use Rattle.qs_core.specs.Core.{Core, View, Running, empty_view, task_word, claimed_word, view_at}
+use Rattle.qs_core.specs.Core.{Core, View, Running, task_word, claimed_word, view_at}
 use Rattle.qs_core.specs.Steps.{CanRelease, after_release, next_successor, rest, stepped}
-use Rattle.qs_core.specs.Sound.{IsSound, IsView, IsClaimed, IsRunning, left_in, unreleased}
+use Rattle.qs_core.specs.Sound.{IsSound, IsView, IsClaimed, IsRunning, Runs, left_in, unreleased}
+use Rattle.qs_core.proofs.Counts.{get_from_Contains, one_if, one_if-le, one_if-other, one_if-same}
+use Rattle.qs_core.proofs.Edges.{part-le-range}
+use Rattle.qs_core.proofs.Totals.{few_for_places, one_in_all}
 use Rattle.qs_core.proofs.Tasks.{IsReleasing, IsReleasing-from, word-other, word-same}
 use Rattle.qs_core.proofs.Views.{IsView-view_at, changed, sum_by-views}
 use Rattle.qs_core.proofs.Running.{AllCame, IsLeft-from, IsSoundTasks, in_order-kept, left-unless_over, one_runs-kept, runs-kept, unclaimed-kept}
@@ -36,24 +38,57 @@ part-le-one shape core task before s l =
     let one = (s.tasks before l).once task in
     cond_both (slice_index core.words (task_word shape before) == claimed_word) 0 (count_by (λ s. s == task) (task_at shape before).successors) (λ n. n ≤ 1) (λ _. omega arith) (λ _. one)
 
--- a view has it left at most once
-left-le-one : (shape : Shape) (core : Core) (task seat : ℕ) (view : View) → IsSound shape core → IsView core seat view → (o : Option Running) → view.running ≡ o → left_in o task ≤ 1
-left-le-one shape core task seat view sound v None e = omega arith
-left-le-one shape core task seat view sound v (Some running) e = ((sound.runs seat view running v e).successors task).1
+-- a view that runs a task has its place
+abbrev runs_at : Option Running → ℕ → ℕ
+runs_at None t = 0
+runs_at (Some running) t = one_if running.task t
+
+-- what a view has left is no more than the places that it has
+left-le-places : (shape : Shape) (core : Core) (task seat : ℕ) (view : View) → IsSound shape core → IsView core seat view → (o : Option Running) → view.running ≡ o
+    → left_in o task ≤ sum_by (runs_at o) (range_with_len 0 (length shape.tasks))
+left-le-places shape core task seat view sound v None e = omega arith
+left-le-places shape core task seat view sound v (Some running) e =
+    let runs = sound.runs seat view running v e in
+    let here = part-le-range (one_if running.task) running.task (length shape.tasks) runs.is_task in
+    let one = one_if-same running.task running.task refl in
+    let few = (runs.successors task).1 in
+    omega arith
+
+-- what has a place runs the task
+runs_from_place : (view : View) (t : ℕ) (o : Option Running) → view.running ≡ o → 0 < runs_at o t → (running : Running) × Runs view t running
+runs_from_place view t None e some = absurd (omega arith)
+runs_from_place view t (Some running) e some =
+    elim (cases_eq running.task t) [
+      | inl same ↦ (running, record { is = e; of_task = same })
+      | inr n ↦ let none = one_if-other running.task t n in absurd (omega arith)
+    ]
+
+runs_at-le : (o : Option Running) (t : ℕ) → runs_at o t ≤ 1
+runs_at-le None t = omega arith
+runs_at-le (Some running) t = one_if-le running.task t
+
+-- one view at most runs a task
+one_place : (shape : Shape) (core : Core) (t : ℕ) → IsSound shape core → sum_by (λ (v : View). runs_at v.running t) core.views ≤ 1
+one_place shape core t sound =
+    one_in_all (λ (v : View). runs_at v.running t) core.views (λ v h. runs_at-le v.running t)
+    (λ i j v w a b p q.
+    let r = runs_from_place v t v.running refl p in
+    let r' = runs_from_place w t w.running refl q in
+    sound.one_runs i j t v w r.0 r'.0 (record { is = a }) (record { is = b }) r.1 r'.1)
 
 -- so the edges into a task are few
-unreleased-few : (shape : Shape) (core : Core) (task : ℕ) → IsShape shape → IsSound shape core → unreleased shape core task ≤ length shape.tasks + length core.views
+unreleased-few : (shape : Shape) (core : Core) (task : ℕ) → IsShape shape → IsSound shape core → unreleased shape core task ≤ 2 * length shape.tasks
 unreleased-few shape core task s sound =
     let f = λ (before : ℕ). cond (slice_index core.words (task_word shape before) == claimed_word) 0 (count_by (λ s. s == task) (task_at shape before).successors) in
-    let g = λ (v : View). left_in v.running task in
     let range = range_with_len 0 (length shape.tasks) in
     let long = length-range_with_len 0 (length shape.tasks) in
     let a = sum_by-le f 1 range (All-from_get_or (λ x. f x ≤ 1) range 0 (λ i l.
     let below : i < length shape.tasks = omega arith in
     let e : get_or range i 0 ≡ i = get_or-range_with_len 0 (length shape.tasks) i 0 below ∙ omega arith in
     subst (λ x. f x ≤ 1) (sym e) (part-le-one shape core task i s below))) in
-    let b = sum_by-le g 1 core.views (All-from_get_or (λ v. g v ≤ 1) core.views empty_view (λ i l.
-    left-le-one shape core task i (get_or core.views i empty_view) sound (record { is = slice_get-get_or core.views i empty_view l }) (get_or core.views i empty_view).running refl)) in
+    let b = few_for_places (λ (v : View). left_in v.running task) (λ (v : View). runs_at v.running) core.views (length shape.tasks)
+    (λ v h. let w = get_from_Contains core.views v h in left-le-places shape core task w.0 v sound (record { is = w.1 }) v.running refl)
+    (λ t. one_place shape core t sound) in
     omega arith
 
 -- the view after a release of a running task
@@ -73,7 +108,6 @@ record CanGo (shape : Shape) (core : Core) (seat : ℕ) (running : Running) : Ty
   shape_is : IsShape shape
   sound : IsSound shape core
   seat_is : seat < length core.views
-  few : length core.views < 2 ^ 32
   runs : (view_at core.views seat).running ≡ Some running
   returned : running.leaves ≡ []
   left : running.successors ≢ []
@@ -88,7 +122,6 @@ word-fallen shape core seat running k =
     let is : word ≡ unreleased shape core after = k.sound.task_words after k.releases.is_task k.releases.unclaimed in
     let some = k.releases.unreleased in
     let few = unreleased-few shape core after k.shape_is k.sound in
-    let n = k.few in
     let m = k.shape_is.few_tasks in
     let there = word-same shape core ((word + (2 ^ 64 - 1)) % 2 ^ 64) after k.sound k.releases.is_task in
     let f = falls word (omega arith) (omega arith) in
@@ -99,7 +132,6 @@ unclaimed-fallen : (shape : Shape) (core : Core) (seat : ℕ) (running : Running
 unclaimed-fallen shape core seat running k c =
     let w = word-fallen shape core seat running k in
     let few = unreleased-few shape core (slice_index running.successors 0) k.shape_is k.sound in
-    let n = k.few in
     let m = k.shape_is.few_tasks in
     omega arith
 
@@ -205,18 +237,23 @@ tasks-fallen shape core seat running k =
       in_order = in_order-kept shape core words seat new k.sound k.seat_is came (λ t l c. forth shape core seat running k t c) (λ t l c. back shape core seat running k t c);
     }
 
+-- it is known where a release is allowed
+CanGo-from : (shape : Shape) (core : Core) (seat : ℕ) → IsShape shape → IsSound shape core → seat < length core.views → (can : CanRelease (view_at core.views seat)) → CanGo shape core seat can.running
+CanGo-from shape core seat s sound l can =
+    record { shape_is = s; sound = sound; seat_is = l; runs = can.runs; returned = can.returned; left = can.left; releases = IsReleasing-from shape core seat s sound l can }
+
+-- the state after a release of what runs
+abbrev released : Shape → Core → ℕ → Option Running → Core
+released shape core seat old = changed core (fallen shape core (next_successor old)) seat (releasing (view_at core.views seat) old)
+
 -- the tasks after a release
-pub tasks-release : (shape : Shape) (core : Core) (seat : ℕ) → IsShape shape → IsSound shape core → seat < length core.views → length core.views < 2 ^ 32 → CanRelease (view_at core.views seat)
+pub tasks-release : (shape : Shape) (core : Core) (seat : ℕ) → IsShape shape → IsSound shape core → seat < length core.views → CanRelease (view_at core.views seat)
     → IsSoundTasks shape (stepped shape core seat Release)
-tasks-release shape core seat s sound l few can =
-    subst (λ (o : Option Running). IsSoundTasks shape (changed core (fallen shape core (next_successor o)) seat (releasing (view_at core.views seat) o))) (sym can.runs)
-    (tasks-fallen shape core seat can.running (record {
-      shape_is = s;
-      sound = sound;
-      seat_is = l;
-      few = few;
-      runs = can.runs;
-      returned = can.returned;
-      left = can.left;
-      releases = IsReleasing-from shape core seat s sound l can;
-    }))
+tasks-release shape core seat s sound l can =
+    subst (λ (o : Option Running). IsSoundTasks shape (released shape core seat o)) (sym can.runs) (tasks-fallen shape core seat can.running (CanGo-from shape core seat s sound l can))
+
+-- what is claimed after a release was claimed before it
+pub claimed_before_release : (shape : Shape) (core : Core) (seat task : ℕ) → IsShape shape → IsSound shape core → seat < length core.views → CanRelease (view_at core.views seat)
+    → IsClaimed shape (stepped shape core seat Release) task → IsClaimed shape core task
+claimed_before_release shape core seat task s sound l can c =
+    back shape core seat can.running (CanGo-from shape core seat s sound l can) task (subst (λ (o : Option Running). IsClaimed shape (released shape core seat o) task) can.runs c)

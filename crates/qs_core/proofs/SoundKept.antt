@@ -5,9 +5,9 @@ use Rattle.qs_core.proofs.RunningKept.{tasks_kept}
 
 -- the locks and the tasks are kept side by side
 pub sound_kept : StepsKeepSound
-sound_kept shape core event laws few sound allowed =
-    let l = locks_kept shape core event laws few sound allowed in
-    let t = tasks_kept shape core event laws few sound allowed in
+sound_kept shape core event laws sound allowed =
+    let l = locks_kept shape core event laws sound allowed in
+    let t = tasks_kept shape core event laws sound allowed in
     record {
       words = l.words;
       seat_word = l.seat_word;

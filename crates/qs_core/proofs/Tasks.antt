@@ -1,31 +1,26 @@
 -- Which words a step leaves, and the facts of a release.
-use Rattle.std.proofs.Common.{◌≡◌, ◌≢◌, ℕ, zero, suc, ◌-◌, ◌<◌, ◌≤◌, List, [], ◌∷◌, length, slice_index, slice_set, Contains, Option, Some, None, refl, sym, ap, subst, arith}
+use Rattle.std.proofs.Common.{◌≡◌, ◌≢◌, ℕ, ◌-◌, ◌<◌, ◌≤◌, List, [], ◌∷◌, length, slice_index, slice_set, Contains, refl, sym, ap, subst, inl, inr, arith}
 use Rattle.std.specs.Bool.{⊤}
-use Rattle.std.proofs.lemmas.List.{get_or-set_same, get_or-set_other}
+use Rattle.std.proofs.lemmas.Bool.{cases_lt}
+use Rattle.std.proofs.lemmas.List.{get_or_past, get_or-set_same, get_or-set_other}
 use Rattle.std.proofs.lemmas.List.Elements.{Contains-get_or}
 use Rattle.qs_core.specs.declared.event.Step.{Step}
 use Rattle.qs_core.specs.declared.event.Step.TheVariants.{Lock, Raise, Lower, Unlock, Fetch, Return, Claim, Release}
-use Rattle.qs_core.specs.Shape.{Shape, IsShape, IsEdge, ancestors, cells_up, parent_of}
+use Rattle.qs_core.specs.Shape.{Shape, IsShape, IsEdge, ancestors}
 use Rattle.qs_core.specs.Core.{Chain, Core, View, Running, task_word, view_at}
 use Rattle.qs_core.specs.Steps.{Allowed, CanRelease, newest, word_of, object_of, next_successor}
 use Rattle.qs_core.specs.Sound.{IsSound, IsClaimed, AreChains, left_in, unreleased}
+use Rattle.qs_core.proofs.Ancestors.{ancestor_is_cell}
 use Rattle.qs_core.proofs.Edges.{count-pos}
 use Rattle.qs_core.proofs.Views.{IsView-view_at, part-le-sum_by}
 
--- every cell above one is a cell
-cells_up-below : (shape : Shape) → IsShape shape → 0 < length shape.parents → (n : ℕ) (up : Option ℕ) → ((above : ℕ) → up ≡ Some above → above < length shape.parents)
-    → (i : ℕ) → slice_index (cells_up shape n up) i < length shape.parents
-cells_up-below shape s some zero up h i = some
-cells_up-below shape s some (suc n) None h i = some
-cells_up-below shape s some (suc n) (Some a) h zero = h a refl
-cells_up-below shape s some (suc n) (Some a) h (suc i) =
-    cells_up-below shape s some n (parent_of shape a) (λ above e. let l = (s.cells a (h a refl)).parent above e in let l' = h a refl in omega arith) i
-
--- the ancestors of a cell are cells
+-- the ancestors of a cell are cells, and past the last of them cell 0 is read
 pub ancestor-below : (shape : Shape) (cell i : ℕ) → IsShape shape → cell < length shape.parents → slice_index (ancestors shape cell) i < length shape.parents
-unfolding ancestors
 ancestor-below shape cell i s l =
-    cells_up-below shape s (omega arith) cell (parent_of shape cell) (λ above e. let l' = (s.cells cell l).parent above e in omega arith) i
+    elim (cases_lt i (length (ancestors shape cell))) [
+      | inl within ↦ ancestor_is_cell shape s cell i within
+      | inr past ↦ let e : slice_index (ancestors shape cell) i ≡ 0 = get_or_past (ancestors shape cell) i 0 past in omega arith
+    ]
 
 -- the cell of the newest chain is one
 newest-below : (shape : Shape) (core : Core) (view : View) → AreChains shape core view → view.chains ≢ [] → (newest view).cell < length shape.parents

@@ -51,6 +51,12 @@ pub IsView-changed_other : (core : Core) (words : List ℕ) (seat : ℕ) (new : 
     → IsView core other view → IsView (changed core words seat new) other view
 IsView-changed_other core words seat new other view n v = record { is = slice_get-set_other core.views seat other new n ∙ v.is }
 
+pub view_at-changed_same : (views : List View) (seat : ℕ) (new : View) → seat < length views → view_at (slice_set views seat new) seat ≡ new
+view_at-changed_same views seat new l = ap (or_else empty_view) (slice_get-set_same views seat new l)
+
+pub view_at-changed_other : (views : List View) (seat other : ℕ) (new : View) → other ≢ seat → view_at (slice_set views seat new) other ≡ view_at views other
+view_at-changed_other views seat other new n = ap (or_else empty_view) (slice_get-set_other views seat other new n)
+
 -- a view after a change: the new one of the seat
 pub record IsNew (seat : ℕ) (new : View) (other : ℕ) (view : View) : Type 0 where
   pub of_seat : other ≡ seat

@@ -1,7 +1,8 @@
 -- A walk up from a cell, through its ancestors.
-use Rattle.std.proofs.Common.{◌≡◌, ℕ, zero, suc, ◌+◌, ◌-◌, ◌<◌, ◌≤◌, ◌⊎◌, ◌↔◌, List, [], ◌∷◌, length, get_or, Contains, Option, Some, None, refl, sym, ap, inl, inr, ◌∙◌, subst, arith}
+use Rattle.std.proofs.Common.{◌≡◌, ℕ, zero, suc, ◌+◌, ◌-◌, ◌<◌, ◌≤◌, ◌↔◌, List, [], ◌∷◌, length, get_or, Contains, Option, Some, None, refl, sym, ap, inl, inr, ◌∙◌, subst, arith}
 use Rattle.qs_core.specs.Shape.{Shape, IsShape, CellContains, ancestors, cells_up, parent_of}
 use Rattle.qs_core.proofs.Ancestors.{parent_below}
+use Rattle.qs_core.proofs.Counts.{Contains-cons_cases, Contains-first, Contains-later, Contains-nil}
 
 -- the cells from one up, the cell first
 abbrev pub line_up : Shape → Option ℕ → List ℕ
@@ -12,20 +13,6 @@ line_up shape (Some cell) = cell ∷ ancestors shape cell
 abbrev pub rank : Option ℕ → ℕ
 rank None = 0
 rank (Some cell) = suc cell
-
--- a list has its first element, and those of its rest
-pub Contains-first : {X : Type 0} (x : X) (xs : List X) → Contains (x ∷ xs) x
-Contains-first x xs = (0, (omega arith), refl)
-
-pub Contains-rest : {X : Type 0} (y : X) (xs : List X) (x : X) → Contains xs x → Contains (y ∷ xs) x
-Contains-rest y xs x (k, l, e) = (suc k, (omega arith), e)
-
-pub Contains-cons_cases : {X : Type 0} (y : X) (xs : List X) (x : X) → Contains (y ∷ xs) x → (y ≡ x) ⊎ Contains xs x
-Contains-cons_cases y xs x (zero, l, e) = inl e
-Contains-cons_cases y xs x (suc k, l, e) = inr (k, (omega arith), e)
-
-pub Contains-nil : {X : Type 0} (x : X) → Contains [] x → ⊥
-Contains-nil x (k, l, e) = absurd (omega arith)
 
 -- the number of steps doesn't matter where it suffices
 cells_up_enough : (shape : Shape) → IsShape shape → (n m : ℕ) (up : Option ℕ) → ((a : ℕ) → up ≡ Some a → a < n) → ((a : ℕ) → up ≡ Some a → a < m)
@@ -86,29 +73,20 @@ contains-step shape is outer cell n = go (parent_of shape cell) (ancestors-line_
       ],
       λ c. inr (subst (λ xs. Contains xs outer) (sym e) (elim c [
         | inl s ↦ subst (λ x. Contains (a ∷ ancestors shape a) x) (sym s) (Contains-first a (ancestors shape a))
-        | inr h ↦ Contains-rest a (ancestors shape a) outer h
+        | inr h ↦ Contains-later a (ancestors shape a) outer h
       ])),
     )
 
-pub ancestors-some : (shape : Shape) → IsShape shape → (cell above : ℕ) → Some above ≡ parent_of shape cell → ancestors shape cell ≡ above ∷ ancestors shape above
-ancestors-some shape is cell above e = ancestors-line_up shape is cell ∙ ap (line_up shape) (sym e)
+-- the walk to the ancestor at an index
+pub seeking-first : (shape : Shape) → IsShape shape → (cell index : ℕ) (up : Option ℕ) → up ≡ parent_of shape cell → get_or (ancestors shape cell) index 0 ≡ get_or (line_up shape up) index 0
+seeking-first shape is cell index up e = ap (λ xs. get_or xs index 0) (ancestors-line_up shape is cell ∙ ap (line_up shape) (sym e))
 
-pub ancestors-none : (shape : Shape) → IsShape shape → (cell : ℕ) → None ≡ parent_of shape cell → ancestors shape cell ≡ []
-ancestors-none shape is cell e = ancestors-line_up shape is cell ∙ ap (line_up shape) (sym e)
-
--- the ancestor at an index
-pub ancestor-first : (shape : Shape) → IsShape shape → (cell above index : ℕ) → Some above ≡ parent_of shape cell → index ≡ 0 → above ≡ get_or (ancestors shape cell) index 0
-ancestor-first shape is cell above index e z = sym (ap (λ xs. get_or xs index 0) (ancestors-some shape is cell above e) ∙ ap (λ i. get_or (above ∷ ancestors shape above) i 0) z)
-
-pub ancestor-later : (shape : Shape) → IsShape shape → (cell above index found : ℕ) → Some above ≡ parent_of shape cell → (index ≡ 0 → ⊥) → found ≡ get_or (ancestors shape above) (index - 1) 0
-    → found ≡ get_or (ancestors shape cell) index 0
-ancestor-later shape is cell above zero found e n f = absurd (n refl)
-ancestor-later shape is cell above (suc i) found e n f =
-    let same : suc i - 1 ≡ i = omega arith in
-    f ∙ ap (λ k. get_or (ancestors shape above) k 0) same ∙ sym (ap (λ xs. get_or xs (suc i) 0) (ancestors-some shape is cell above e))
-
-pub ancestor-none : (shape : Shape) → IsShape shape → (cell index : ℕ) → None ≡ parent_of shape cell → 0 ≡ get_or (ancestors shape cell) index 0
-ancestor-none shape is cell index e = sym (ap (λ xs. get_or xs index 0) (ancestors-none shape is cell e))
+pub seeking-more : (shape : Shape) → IsShape shape → (above left found : ℕ) (up next : Option ℕ) → up ≡ Some above → next ≡ parent_of shape above → (left ≡ 0 → ⊥)
+    → found ≡ get_or (line_up shape up) left 0 → found ≡ get_or (line_up shape next) (left - 1) 0
+seeking-more shape is above zero found up next u e n f = absurd (n refl)
+seeking-more shape is above (suc left) found up next u e n f =
+    let same : suc left - 1 ≡ left = omega arith in
+    f ∙ ap (λ o. get_or (line_up shape o) (suc left) 0) u ∙ seeking-first shape is above left next e ∙ ap (λ k. get_or (line_up shape next) k 0) (sym same)
 
 -- the walk that counts the ancestors
 pub record IsCounting (shape : Shape) (cell count : ℕ) (up : Option ℕ) : Type 0 where

@@ -1,5 +1,5 @@
 -- The machine that plays events: its state, with the last note of each seat.
-use Rattle.std.specs.Prelude.{◌≡◌, ℕ, suc, ◌-◌, ◌^◌, ◌<◌, min, List, length, slice_get, slice_set, replicate, Option, Some, None}
+use Rattle.std.specs.Prelude.{◌≡◌, ℕ, suc, ◌-◌, ◌^◌, min, List, length, slice_get, slice_set, replicate, Option, Some, None}
 use Rattle.qs_core.specs.declared.event.Event.{Event}
 use Rattle.qs_core.specs.declared.event.Note.{Note}
 use Rattle.qs_core.specs.declared.event.Step.{Step}
@@ -7,7 +7,7 @@ use Rattle.qs_core.specs.declared.event.Step.TheVariants.{Lock, Raise, Lower, Un
 use Rattle.qs_core.specs.declared.event.StepKind.{StepKind}
 use Rattle.qs_core.specs.declared.event.StepKind.TheVariants as Kind
 use Rattle.qs_core.specs.Shape.{Shape, IsShape, or_else}
-use Rattle.qs_core.specs.Core.{Core, opening, view_at}
+use Rattle.qs_core.specs.Core.{Core, View, opening, view_at}
 use Rattle.qs_core.specs.Steps.{effect, object_of, seen_by}
 use Rattle.qs_core.specs.Sound.{IsSound}
 
@@ -32,14 +32,20 @@ abbrev pub number_after : Option Note → ℕ
 number_after None = 1
 number_after (Some note) = min (suc note.number) (2 ^ 64 - 1)
 
+-- the note that a step leaves with a seat of this view and this last note, where this was seen
+abbrev pub note_after : Shape → View → Option Note → Step → ℕ → Note
+note_after shape view last step seen = record {
+  number = number_after last;
+  kind = kind_of step;
+  cell = object_of shape view step;
+  seen = seen;
+}
+
 -- the note that an event leaves
 abbrev pub note_of : Machine → Event → Note
-note_of m event = record {
-  number = number_after (or_else None (slice_get m.notes event.seat));
-  kind = kind_of event.step;
-  cell = object_of m.shape (view_at m.core.views event.seat) event.step;
-  seen = seen_by m.shape m.core event.seat event.step;
-}
+note_of m event =
+    note_after m.shape (view_at m.core.views event.seat) (or_else None (slice_get m.notes event.seat)) event.step
+    (seen_by m.shape m.core event.seat event.step)
 
 -- the machine after an event
 abbrev pub played : Machine → Event → Machine
@@ -58,4 +64,3 @@ pub record IsMachine (m : Machine) : Type 0 where
   pub shape : IsShape m.shape
   pub sound : IsSound m.shape m.core
   pub one_note_each : length m.notes ≡ length m.core.views
-  pub few : length m.core.views < 2 ^ 32

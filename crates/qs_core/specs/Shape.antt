@@ -1,5 +1,5 @@
 -- What is scheduled, as plain data: cells in a hierarchy, the leaves below them, and tasks on one cell or two with an order between them.
-use Rattle.std.specs.Prelude.{◌≡◌, ℕ, zero, suc, ◌-◌, ◌^◌, ◌<◌, ◌≤◌, ◌⊎◌, ◌==◌, List, [], ◌∷◌, ◌++◌, length, slice_get, Option, Some, None, Contains, sum_by, count_by, ⊤}
+use Rattle.std.specs.Prelude.{◌≡◌, ℕ, zero, suc, ◌-◌, ◌^◌, ◌<◌, ◌≤◌, ◌⊎◌, ◌==◌, List, [], ◌∷◌, ◌++◌, length, slice_get, Option, Some, None, Contains, sum_by, count_by}
 use Rattle.std.specs.List.{range_with_len}
 
 -- a task: its one cell or two, the tasks that wait for it, and its weight
@@ -86,11 +86,6 @@ Precedes shape before after = (path : List ℕ) × IsPath shape before path afte
 -- the number of edges into a task
 abbrev pub edges_into : Shape → ℕ → ℕ
 edges_into shape task = sum_by (λ (t : TaskShape). count_by (λ after. after == task) t.successors) shape.tasks
-
--- the cell, if there is one, is below a count
-abbrev pub IsCellBelow : ℕ → Option ℕ → Type 0
-IsCellBelow count None = ⊤
-IsCellBelow count (Some cell) = cell < count
 
 -- a cell's range of leaves is not empty, and lies in its parent's
 pub record IsCellShape (shape : Shape) (cell : ℕ) : Type 0 where

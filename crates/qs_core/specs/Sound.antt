@@ -1,9 +1,9 @@
 -- What every state of the machine keeps, and that no two seats own cells of which one contains the other.
 use Rattle.std.specs.Prelude.{◌≡◌, ◌≢◌, ℕ, suc, ◌+◌, ◌*◌, ◌<◌, ◌≤◌, ◌==◌, true, false, List, [], length, take, slice_get, slice_index, sum_by, count_by, Contains, Option, Some, None, if◌then◌else◌}
 use Rattle.std.specs.List.{range_with_len}
-use Rattle.qs_core.specs.Shape.{Shape, IsBelow, IsEdge, Touches, CellContains, ancestors, task_at}
-use Rattle.qs_core.specs.Core.{Chain, Core, IsComplete, Owns, Running, View, cell_word, claimed_word, leaf_word, task_word, word_count}
-use Rattle.qs_core.specs.Steps.{OwnsJust, ancestor_at}
+use Rattle.qs_core.specs.Shape.{Shape, IsEdge, Touches, CellContains, ancestors, task_at}
+use Rattle.qs_core.specs.Core.{Chain, Core, IsComplete, Running, View, cell_word, claimed_word, leaf_word, task_word, word_count}
+use Rattle.qs_core.specs.Steps.{OwnsAbove, OwnsJust, ancestor_at}
 
 -- how often a cell is locked, and raised, over all chains of all views
 abbrev pub locks_of : ℕ → List View → ℕ
@@ -76,9 +76,7 @@ pub record AreChains (shape : Shape) (core : Core) (view : View) : Type 0 where
 -- a leaf that the view has out: it owns a cell above it, and where it runs a task the leaf is left to return
 pub record IsOut (shape : Shape) (view : View) (leaf : ℕ) : Type 0 where
   pub is_leaf : leaf < shape.leaves
-  pub cell : ℕ
-  pub owned : Owns shape view cell
-  pub below : IsBelow shape leaf cell
+  pub above : OwnsAbove shape view leaf
   pub left : (running : Running) → view.running ≡ Some running → Contains running.leaves leaf
 
 -- a running task: it is claimed, what it has left is its own, each once, and something is left

@@ -6,9 +6,23 @@ use Rattle.qs_core.specs.declared.event.Step.TheVariants.{Lock, Raise, Lower, Un
 use Rattle.qs_core.specs.Shape.{Shape, AreApart, IsBelow, ancestors, leaves_of, or_else, task_at}
 use Rattle.qs_core.specs.Core.{Chain, Core, IsComplete, Owns, Running, View, cell_word, claimed_word, leaf_word, task_word, view_at}
 
+-- the chain of a cell that was just locked; where there is no chain, all is 0
+abbrev pub new_chain : ℕ → Chain
+new_chain cell = record { cell = cell; raises = 0; stopped = false; giving = false }
+
+abbrev pub no_chain : Chain
+no_chain = new_chain 0
+
+-- the chain after a raise that saw this word, and after a lower
+abbrev pub raised_chain : Chain → ℕ → Chain
+raised_chain chain seen = record chain { raises = suc chain.raises; stopped = seen % 2 == 1 }
+
+abbrev pub lowered_chain : Chain → Chain
+lowered_chain chain = record chain { raises = chain.raises - 1; giving = true }
+
 -- the newest chain
 abbrev pub newest : View → Chain
-newest view = or_else (record { cell = 0; raises = 0; stopped = false; giving = false }) (slice_get view.chains 0)
+newest view = or_else no_chain (slice_get view.chains 0)
 
 -- a task runs with no leaf left to return, or none runs
 abbrev pub HasReturned : Option Running → Type 0
@@ -28,13 +42,27 @@ IsCellOf shape task cell = ((task_at shape task).first ≡ cell) ⊎ ((task_at s
 abbrev pub OwnsJust : Shape → View → ℕ → Type 0
 OwnsJust shape view task = (cell : ℕ) → (Owns shape view cell ↔ IsCellOf shape task cell)
 
-pub record CanLock (shape : Shape) (view : View) (cell : ℕ) : Type 0 where
-  pub is_cell : cell < length shape.parents
+-- the view owns a cell above the leaf
+pub record OwnsAbove (shape : Shape) (view : View) (leaf : ℕ) : Type 0 where
+  pub cell : ℕ
+  pub owned : Owns shape view cell
+  pub below : IsBelow shape leaf cell
+
+-- a chain of the cell may stand beside those of the view
+pub record HasRoom (shape : Shape) (view : View) (cell : ℕ) : Type 0 where
   pub few : length view.chains < 2
   pub complete : (chain : Chain) → Contains view.chains chain → IsComplete shape chain
+  pub apart : (owned : ℕ) → Owns shape view owned → AreApart shape owned cell
+
+-- no leaf is out and no task runs
+pub record IsFree (view : View) : Type 0 where
   pub none_out : view.out ≡ []
   pub none_runs : view.running ≡ None
-  pub apart : (owned : ℕ) → Owns shape view owned → AreApart shape owned cell
+
+pub record CanLock (shape : Shape) (view : View) (cell : ℕ) : Type 0 where
+  pub is_cell : cell < length shape.parents
+  pub room : HasRoom shape view cell
+  pub free : IsFree view
 
 pub record CanRaise (shape : Shape) (view : View) : Type 0 where
   pub some : view.chains ≢ []
@@ -57,9 +85,7 @@ pub record CanUnlock (view : View) : Type 0 where
 
 pub record CanFetch (shape : Shape) (view : View) (leaf : ℕ) : Type 0 where
   pub is_leaf : leaf < shape.leaves
-  pub cell : ℕ
-  pub owned : Owns shape view cell
-  pub below : IsBelow shape leaf cell
+  pub above : OwnsAbove shape view leaf
   pub home : Contains view.out leaf → ⊥
   pub left : MayFetch view.running leaf
 
@@ -70,8 +96,7 @@ pub record CanReturn (shape : Shape) (view : View) (leaf : ℕ) : Type 0 where
 pub record CanClaim (shape : Shape) (view : View) (task : ℕ) : Type 0 where
   pub is_task : task < length shape.tasks
   pub owns : OwnsJust shape view task
-  pub none_runs : view.running ≡ None
-  pub none_out : view.out ≡ []
+  pub free : IsFree view
 
 pub record CanRelease (view : View) : Type 0 where
   pub running : Running
@@ -157,12 +182,10 @@ with_newest view chain = record view { chains = chain ∷ rest view.chains }
 abbrev pub view_after : Shape → View → Step → ℕ → View
 view_after shape view (Lock cell) seen =
     if seen == 0
-    then record view { chains = record { cell = cell; raises = 0; stopped = false; giving = false } ∷ view.chains }
+    then record view { chains = new_chain cell ∷ view.chains }
     else view
-view_after shape view Raise seen =
-    with_newest view (record (newest view) { raises = suc (newest view).raises; stopped = seen % 2 == 1 })
-view_after shape view Lower seen =
-    with_newest view (record (newest view) { raises = (newest view).raises - 1; giving = true })
+view_after shape view Raise seen = with_newest view (raised_chain (newest view) seen)
+view_after shape view Lower seen = with_newest view (lowered_chain (newest view))
 view_after shape view Unlock seen = record view { chains = rest view.chains }
 view_after shape view (Fetch leaf) seen = record view { out = leaf ∷ view.out }
 view_after shape view (Return leaf) seen = record view { out = without leaf view.out; running = after_return view.running leaf }

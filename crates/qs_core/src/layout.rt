@@ -1,9 +1,10 @@
 //! What is scheduled, as the machine keeps it.
-ghost use Rattle.std.specs.Prelude.{◌≡◌, ◌<◌, ◌↔◌, ◌++◌, ℕ, length, IfOk, IsTrue, OnOk, slice_index};
+ghost use Rattle.std.specs.Prelude.{◌≡◌, ◌<◌, ◌↔◌, ◌++◌, ℕ, length, IfOk, IsTrue, OnOk, Some, slice_index};
 ghost use Rattle.qs_core.specs.Shape.{AreApart, CellContains, IsBelow, IsShape, Touches, ancestors, leaves_of, leaves_of_other, parent_of, range_of, task_at};
 ghost use Rattle.qs_core.specs.Core.{cell_word, leaf_word, task_word};
 ghost use Rattle.qs_core.specs.Steps.{word_of};
-ghost use Rattle.qs_core.specs.Listed.{AllIn, IsBelowSome};
+ghost use Rattle.qs_core.specs.Listed.{IsBelowSome};
+ghost use Rattle.qs_core.specs.Held.{IsEither};
 
 use crate::event::Step;
 use crate::work::Work;
@@ -16,6 +17,7 @@ pub struct TaskPlan {
     first: u32,
     second: Option<u32>,
     successors: Vec<u32>,
+    // The model has it, and no code reads it.
     weight: u64,
 }
 
@@ -44,7 +46,7 @@ impl TaskPlan {
 
     /// Whether the cell, if there is one, is one of the task's.
     pub fn has(&self, cell: Option<u32>) -> bool
-        ensures { IsTrue result ↔ AllIn cell self.now.first self.now.second }
+        ensures { IsTrue result ↔ IsEither cell (Some self.now.first) self.now.second }
     {
         match cell {
             Some(cell) => self.first == cell || self.second == Some(cell),
@@ -233,11 +235,16 @@ impl Layout {
     pub fn ancestor(&self, cell: u32, index: u32) -> u32
         ensures { result ≡ slice_index (ancestors self.now cell) index }
     {
-        match self.parent(cell) {
-            Some(above) if index == 0 => above,
-            Some(above) => self.ancestor(above, index - 1),
-            None => 0,
+        let mut left = index;
+        let mut up = self.parent(cell);
+        while let Some(above) = up {
+            if left == 0 {
+                return above;
+            }
+            left -= 1;
+            up = self.parent(above);
         }
+        0
     }
 
     /// Whether a cell is another or contains it.

@@ -20,7 +20,7 @@ pub fn play<W: Work>(
     ensures played { IfOk result (λ done. MatchBool done (IsAllowed state.old.shape state.old.core event × (state.new ≡ played state.old event)) ((IsAllowed state.old.shape state.old.core event → ⊥) × (state.new ≡ state.old))) }
     ensures unchanged { OnErr result (state.new ≡ state.old) }
 {
-    let _work = work;
+    let _ = work;
     if !state.may(event) {
         return Ok(false);
     }

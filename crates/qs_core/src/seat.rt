@@ -1,195 +1,25 @@
 //! What a seat holds: its chains of locks, the leaves that it has out, and its running task.
-ghost use Rattle.std.specs.Prelude.{◌≡◌, ◌≢◌, ◌-◌, ◌<◌, ◌↔◌, ◌⊎◌, ◌∷◌, ℕ, [], length, slice_get, slice_index, Contains, IsTrue, OnErr, OnOk};
-ghost use Rattle.qs_core.specs.Shape.{Shape, ancestors, or_else};
-ghost use Rattle.qs_core.specs.Core.{IsComplete, Owns, empty_view};
-ghost use Rattle.qs_core.specs.Steps.{Allowed, CanClaim, CanFetch, CanLock, CanLower, CanRaise, CanRelease, CanReturn, CanUnlock, HasReturned, MayFetch, OwnsJust, after_release, after_return, ancestor_at, newest, next_successor, object_of, rest, unless_over, view_after, without};
-ghost use Rattle.qs_core.specs.Held.{AreJust, HasRoom, IsEither, IsFree, IsOwner, MayRaise, OwnsAbove, RunsOn, chains_of, lowered_chain, no_chain, raised_chain};
+ghost use Rattle.std.specs.Prelude.{◌≡◌, ◌≢◌, ◌<◌, ◌↔◌, ◌⊎◌, ℕ, [], length, Contains, IsTrue, None, OnErr, OnOk, Some};
+ghost use Rattle.qs_core.specs.Shape.{Shape};
+ghost use Rattle.qs_core.specs.Core.{Owns, empty_view};
+ghost use Rattle.qs_core.specs.Steps.{Allowed, CanClaim, CanFetch, CanLock, CanLower, CanRaise, CanRelease, CanReturn, CanUnlock, HasReturned, HasRoom, IsFree, MayFetch, OwnsAbove, OwnsJust, newest, next_successor, object_of, view_after};
+ghost use Rattle.qs_core.specs.Held.{RunsOn};
+
+mod chain;
+mod chains;
+mod lists;
+mod owned;
+mod running;
 
 use crate::event::Step;
-use crate::layout::{Layout, TaskPlan};
+use crate::layout::Layout;
+use chain::LockChain;
+use chains::Chains;
+use lists::remove_leaf;
+use owned::OwnedCells;
+use running::{RunningTask, after_release, after_return};
 use std::alloc::{AllocError, Global};
 use std::marker::Model;
-
-/// A locked cell with the number of its ancestors that are raised.
-#[derive(Clone, Copy)]
-pub struct LockChain {
-    cell: u32,
-    raises: u32,
-    stopped: bool,
-    giving: bool,
-}
-
-impl Model for LockChain {
-    ghost use Rattle.qs_core.specs.Core.{Chain};
-
-    ghost Value = { Chain };
-
-    ghost view = { λ c. record { cell = c.cell; raises = c.raises; stopped = c.stopped; giving = c.giving } };
-
-    ghost inverse = { λ d. record { cell = d.cell; raises = d.raises; stopped = d.stopped; giving = d.giving } };
-}
-
-impl LockChain {
-    /// Whether the cell is owned.
-    fn is_complete(self, layout: &Layout) -> bool
-        ensures { IsTrue result ↔ IsComplete layout.now self }
-    {
-        !self.stopped && !self.giving && self.raises == layout.depth(self.cell)
-    }
-
-    /// Whether the next ancestor may be raised.
-    fn may_raise(self, layout: &Layout) -> bool
-        ensures { IsTrue result ↔ MayRaise layout.now self }
-    {
-        !self.stopped && !self.giving && self.raises < layout.depth(self.cell)
-    }
-
-    /// Whether an ancestor is raised.
-    fn is_raised(self) -> bool
-        ensures { IsTrue result ↔ (0 < self.raises) }
-    {
-        self.raises > 0
-    }
-
-    /// The cell.
-    fn cell(self) -> u32
-        ensures { result ≡ self.cell }
-    {
-        self.cell
-    }
-
-    /// The ancestor that is raised next: 0 where there is none.
-    fn next(self, layout: &Layout) -> u32
-        ensures { result ≡ ancestor_at layout.now self self.raises }
-    {
-        layout.ancestor(self.cell, self.raises)
-    }
-
-    /// The ancestor that was raised last: the parent where none was.
-    fn last(self, layout: &Layout) -> u32
-        ensures { result ≡ ancestor_at layout.now self (self.raises - 1) }
-    {
-        layout.ancestor(self.cell, self.raises.saturating_sub(1))
-    }
-
-    /// The chain after a raise that saw this word: an odd one is locked.
-    fn raised(self, layout: &Layout, seen: u64) -> LockChain
-        requires { self.raises < length (ancestors layout.now self.cell) }
-        ensures { result ≡ raised_chain self seen }
-    {
-        let depth = layout.depth(self.cell);
-        prove!(self.raises < depth);
-        LockChain {
-            cell: self.cell,
-            raises: self.raises + 1,
-            stopped: seen % 2 == 1,
-            giving: self.giving,
-        }
-    }
-
-    /// The chain after a lower.
-    fn lowered(self) -> LockChain
-        ensures { result ≡ lowered_chain self }
-    {
-        LockChain {
-            cell: self.cell,
-            raises: self.raises.saturating_sub(1),
-            stopped: self.stopped,
-            giving: true,
-        }
-    }
-
-    /// The cell, where it is owned.
-    fn owned(self, layout: &Layout) -> Option<u32>
-        ensures { (cell : ℕ) → ((result ≡ Some cell) ↔ IsOwner layout.now self cell) }
-    {
-        if self.is_complete(layout) {
-            Some(self.cell)
-        } else {
-            None
-        }
-    }
-}
-
-/// The chains of a seat: no more than two.
-#[derive(Clone, Copy)]
-pub enum Chains {
-    Empty,
-    One(LockChain),
-    Two { newest: LockChain, older: LockChain },
-}
-
-impl Chains {
-    /// The newest chain: all 0 where there is none.
-    fn newest(self) -> LockChain
-        ensures { result ≡ or_else no_chain (slice_get (chains_of self) 0) }
-    {
-        match self {
-            Chains::Empty => LockChain {
-                cell: 0,
-                raises: 0,
-                stopped: false,
-                giving: false,
-            },
-            Chains::One(newest) => newest,
-            Chains::Two { newest, .. } => newest,
-        }
-    }
-
-    /// A chain before the others.
-    fn with(self, chain: LockChain) -> Chains
-        requires { length (chains_of self) < 2 }
-        ensures { chains_of result ≡ chain ∷ chains_of self }
-    {
-        match self {
-            Chains::Empty => Chains::One(chain),
-            Chains::One(older) => Chains::Two {
-                newest: chain,
-                older,
-            },
-            Chains::Two { .. } => unreachable!(),
-        }
-    }
-
-    /// A chain in place of the newest.
-    fn with_newest(self, chain: LockChain) -> Chains
-        ensures { chains_of result ≡ chain ∷ rest (chains_of self) }
-    {
-        match self {
-            Chains::Empty | Chains::One(_) => Chains::One(chain),
-            Chains::Two { older, .. } => Chains::Two {
-                newest: chain,
-                older,
-            },
-        }
-    }
-
-    /// The chains without the newest.
-    fn without_newest(self) -> Chains
-        ensures { chains_of result ≡ rest (chains_of self) }
-    {
-        match self {
-            Chains::Empty | Chains::One(_) => Chains::Empty,
-            Chains::Two { older, .. } => Chains::One(older),
-        }
-    }
-}
-
-/// A claimed task with the leaves and the successors that it has left, in order.
-#[derive(Drop)]
-pub struct RunningTask {
-    task: u32,
-    leaves: Vec<u32>,
-    successors: Vec<u32>,
-}
-
-impl Model for RunningTask {
-    ghost use Rattle.qs_core.specs.Core.{Running};
-
-    ghost Value = { Running };
-
-    ghost view = { λ r. record { task = r.task; leaves = r.leaves.items; successors = r.successors.items } };
-}
 
 /// What a seat holds.
 #[derive(Drop)]
@@ -207,42 +37,6 @@ impl Model for Seat {
     ghost use Rattle.qs_core.specs.Held.{chains_of};
 
     ghost view = { λ s. record { chains = chains_of s.chains; out = s.out.items; running = s.running } };
-}
-
-/// The cells that a seat owns.
-#[derive(Clone, Copy)]
-pub struct OwnedCells {
-    newest: Option<u32>,
-    older: Option<u32>,
-}
-
-impl OwnedCells {
-    /// Whether they are just the cells of a task.
-    fn are_cells_of(self, task: &TaskPlan) -> bool
-        ensures { IsTrue result ↔ AreJust self.newest self.older task.now.first task.now.second }
-    {
-        self.contains(task.first())
-            && self.has(task.second())
-            && task.has(self.newest)
-            && task.has(self.older)
-    }
-
-    /// Whether the cell, if there is one, is one of them.
-    fn has(self, cell: Option<u32>) -> bool
-        ensures { IsTrue result ↔ IsEither cell self.newest self.older }
-    {
-        match cell {
-            Some(cell) => self.contains(cell),
-            None => true,
-        }
-    }
-
-    /// Whether the cell is one of them.
-    fn contains(self, cell: u32) -> bool
-        ensures { IsTrue result ↔ ((self.newest ≡ Some cell) ⊎ (self.older ≡ Some cell)) }
-    {
-        self.newest == Some(cell) || self.older == Some(cell)
-    }
 }
 
 impl Seat {
@@ -342,7 +136,7 @@ impl Seat {
         ensures { IsTrue result ↔ HasReturned self.now.running }
     {
         match &self.running {
-            Some(running) => running.leaves.is_empty(),
+            Some(running) => running.has_returned(),
             None => true,
         }
     }
@@ -352,7 +146,7 @@ impl Seat {
         ensures { IsTrue result ↔ MayFetch self.now.running leaf }
     {
         match &self.running {
-            Some(running) => running.leaves.contains(&leaf),
+            Some(running) => running.has_left(leaf),
             None => true,
         }
     }
@@ -362,7 +156,7 @@ impl Seat {
         ensures { IsTrue result ↔ RunsOn self.now.running task leaf }
     {
         match &self.running {
-            Some(running) => running.task == task && running.leaves.contains(&leaf),
+            Some(running) => running.task() == task && running.has_left(leaf),
             None => false,
         }
     }
@@ -373,7 +167,7 @@ impl Seat {
     {
         match self.chains {
             Chains::Empty => true,
-            Chains::One(chain) => chain.is_complete(layout) && layout.are_apart(chain.cell, cell),
+            Chains::One(chain) => chain.is_complete(layout) && layout.are_apart(chain.cell(), cell),
             Chains::Two { .. } => false,
         }
     }
@@ -427,7 +221,7 @@ impl Seat {
         ensures { IsTrue result ↔ CanRelease self.now }
     {
         match &self.running {
-            Some(running) => running.leaves.is_empty() && !running.successors.is_empty(),
+            Some(running) => running.has_returned() && running.has_successor(),
             None => false,
         }
     }
@@ -468,7 +262,7 @@ impl Seat {
         ensures { result ≡ next_successor self.now.running }
     {
         match &self.running {
-            Some(running) => first_of(running.successors.as_slice()),
+            Some(running) => running.next_successor(),
             None => 0,
         }
     }
@@ -478,13 +272,7 @@ impl Seat {
         ensures { (shape : Shape) → self.new ≡ view_after shape self.old (Step.Lock cell) seen }
     {
         if seen == 0 {
-            let chain = LockChain {
-                cell,
-                raises: 0,
-                stopped: false,
-                giving: false,
-            };
-            self.chains = self.chains.with(chain);
+            self.chains = self.chains.with(LockChain::new(cell));
         }
     }
 
@@ -536,13 +324,7 @@ impl Seat {
         ensures unchanged { OnErr result (self.new ≡ self.old) }
     {
         if seen == 0 {
-            let leaves = layout.leaves_of(alloc, task)?;
-            let successors = Vec::from_slice(alloc, layout.task(task).successors())?;
-            self.running = Some(RunningTask {
-                task,
-                leaves,
-                successors,
-            });
+            self.running = Some(RunningTask::new(alloc, layout, task)?);
         }
         Ok(())
     }
@@ -577,59 +359,4 @@ impl Seat {
         }
         Ok(())
     }
-}
-
-/// The first of a list: 0 where it is empty.
-fn first_of(numbers: &[u32]) -> u32
-    ensures { result ≡ slice_index numbers.now 0 }
-{
-    match numbers.first() {
-        Some(first) => *first,
-        None => 0,
-    }
-}
-
-/// Takes a leaf out of a list.
-fn remove_leaf(leaves: &mut Vec<u32>, leaf: u32)
-    ensures { leaves.new.items ≡ without leaf leaves.old.items }
-{
-    leaves.retain(|other| *other != leaf);
-}
-
-/// Takes the first out of a list.
-fn remove_first(numbers: &mut Vec<u32>)
-    ensures { numbers.new.items ≡ rest numbers.old.items }
-{
-    if !numbers.is_empty() {
-        numbers.remove(0);
-    }
-}
-
-/// A running task, unless it is over.
-fn unless_over(running: RunningTask) -> Option<RunningTask>
-    ensures { result ≡ unless_over running.task running.leaves running.successors }
-{
-    if running.leaves.is_empty() && running.successors.is_empty() {
-        None
-    } else {
-        Some(running)
-    }
-}
-
-/// A running task after a leaf was returned.
-fn after_return(running: Option<RunningTask>, leaf: u32) -> Option<RunningTask>
-    ensures { result ≡ after_return running leaf }
-{
-    let mut running = running?;
-    remove_leaf(&mut running.leaves, leaf);
-    unless_over(running)
-}
-
-/// A running task after a successor was released.
-fn after_release(running: Option<RunningTask>) -> Option<RunningTask>
-    ensures { result ≡ after_release running }
-{
-    let mut running = running?;
-    remove_first(&mut running.successors);
-    unless_over(running)
 }

@@ -1,11 +1,12 @@
 //! The state of the machine: a word for each cell, leaf and task, and what each seat holds.
 ghost use Rattle.std.specs.Prelude.{◌≡◌, ◌<◌, ◌≤◌, ◌↔◌, length, slice_get, slice_index, IfOk, IsTrue, None, OnErr, OnOk};
+ghost use Rattle.std.specs.List.{Any};
 ghost use Rattle.qs_core.specs.Shape.{or_else};
-ghost use Rattle.qs_core.specs.Core.{Owns, cell_word, leaf_word, task_word, view_at, word_count};
+ghost use Rattle.qs_core.specs.Core.{Owns, View, cell_word, leaf_word, task_word, view_at, word_count};
 ghost use Rattle.qs_core.specs.Sound.{IsDone};
 ghost use Rattle.qs_core.specs.Steps.{IsAllowed, object_of, word_of};
 ghost use Rattle.qs_core.specs.Machine.{IsMachine, made, note_of, played};
-ghost use Rattle.qs_core.specs.States.{IsLeft, IsOver};
+ghost use Rattle.qs_core.specs.Held.{RunsOn};
 
 use crate::event::{Event, Note};
 use crate::layout::Layout;
@@ -100,7 +101,7 @@ impl State {
 
     /// Whether some seat runs the task with the leaf left.
     fn is_left(&self, leaf: u32, task: u32) -> bool
-        ensures { IsTrue result ↔ IsLeft self.now.core.views task leaf }
+        ensures { IsTrue result ↔ Any (λ (v : View). RunsOn v.running task leaf) self.now.core.views }
     {
         for seat in &self.seats {
             if seat.runs_on(task, leaf) {
@@ -110,21 +111,13 @@ impl State {
         false
     }
 
-    /// Whether a task is claimed, and no seat has the leaf of it left.
-    fn is_over(&self, leaf: u32, task: u32) -> bool
-        requires { task < length self.now.shape.tasks }
-        ensures { IsTrue result ↔ IsOver self.now.shape self.now.core task leaf }
-    {
-        self.wait(task) == CLAIMED && !self.is_left(leaf, task)
-    }
-
     /// Whether a task is done on a leaf.
     pub fn is_done(&self, leaf: u32, task: u32) -> bool
         requires leaf { leaf < self.now.shape.leaves }
         requires task { task < length self.now.shape.tasks }
         ensures { IsTrue result ↔ IsDone self.now.shape self.now.core task leaf }
     {
-        self.layout.touches(task, leaf) && self.is_over(leaf, task)
+        self.layout.touches(task, leaf) && self.wait(task) == CLAIMED && !self.is_left(leaf, task)
     }
 
     /// Whether a seat owns a cell.
@@ -156,7 +149,7 @@ impl State {
     }
 
     /// The note that an event leaves.
-    fn note_after(&self, event: Event) -> Note
+    fn note_of(&self, event: Event) -> Note
         requires { IsAllowed self.now.shape self.now.core event }
         ensures { result ≡ note_of self.now event }
     {
@@ -179,7 +172,7 @@ impl State {
         ensures made { OnOk result (self.new ≡ played self.old event) }
         ensures unchanged { OnErr result (self.new ≡ self.old) }
     {
-        let note = self.note_after(event);
+        let note = self.note_of(event);
         let seat = event.seat as usize;
         let changed = &mut self.seats[seat];
         changed.make(alloc, &self.layout, event.step, note.seen)?;

@@ -1,5 +1,5 @@
 //! Events on four cells: 1 is below 0, and 2 and 3 below 1, each with one leaf.
-ghost use Rattle.std.specs.Prelude.{◌≡◌, ◌<◌, ◌↔◌, ◌⊎◌, ℕ, length, true, Contains, ⊤};
+ghost use Rattle.std.specs.Prelude.{◌≡◌, ◌<◌, ◌↔◌, ◌⊎◌, ℕ, false, true, length, Contains, ⊤};
 ghost use Rattle.qs_core.specs.Family.{done_by, family};
 
 use crate::{Event, Note, State, Step, StepKind, Work, play};
@@ -11,34 +11,58 @@ use std::test::Fail;
 pub struct Marks {
     zeroth: bool,
     first: bool,
+    second: bool,
 }
 
 impl Marks {
     fn mark(&mut self, task: u32)
-        requires { task < 2 }
-        ensures { (t : ℕ) → (Contains (done_by self.new.zeroth self.new.first) t ↔ (Contains (done_by self.old.zeroth self.old.first) t ⊎ (t ≡ task))) }
+        requires { task < 3 }
+        ensures { (t : ℕ) → (Contains (done_by self.new.zeroth self.new.first self.new.second) t ↔ (Contains (done_by self.old.zeroth self.old.first self.old.second) t ⊎ (t ≡ task))) }
     {
-        if task == 0 {
-            self.zeroth = true;
-        } else {
-            self.first = true;
+        match task {
+            0 => self.zeroth = true,
+            1 => self.first = true,
+            _ => self.second = true,
         }
     }
 }
 
-/// The cells, with two tasks on cell 2, the second of which waits for the first.
-pub struct Family;
+/// The cells, with no tasks, with two on cell 2, the second of which waits for the first, or with a third
+/// on cells 2 and 3 that waits for both.
+#[derive(Clone, Copy)]
+pub struct Family {
+    has_tasks: bool,
+    has_third: bool,
+}
+
+/// The cells alone.
+const CELLS: Family = Family {
+    has_tasks: false,
+    has_third: false,
+};
+
+/// The cells and two tasks.
+const TASKS: Family = Family {
+    has_tasks: true,
+    has_third: false,
+};
+
+/// The cells and all three tasks.
+const THREE: Family = Family {
+    has_tasks: true,
+    has_third: true,
+};
 
 impl Work for Family {
-    type Plan = bool;
+    type Plan = Family;
 
     type Block = Marks;
 
-    ghost plan = { λ _. true };
+    ghost plan = { λ f. f };
 
-    ghost shape = { λ _. family };
+    ghost shape = { λ f. family f.has_tasks f.has_third };
 
-    ghost done = { λ m. done_by m.zeroth m.first };
+    ghost done = { λ m. done_by m.zeroth m.first m.second };
 
     ghost fits = { λ _ _ _. ⊤ };
 
@@ -67,15 +91,24 @@ impl Work for Family {
     }
 
     fn tasks(&self) -> u32 {
-        2
+        match (self.has_tasks, self.has_third) {
+            (false, _) => 0,
+            (true, false) => 2,
+            (true, true) => 3,
+        }
     }
 
-    fn cells_of(&self, _task: u32) -> (u32, Option<u32>) {
-        (2, None)
+    fn cells_of(&self, task: u32) -> (u32, Option<u32>) {
+        if task == 2 { (2, Some(3)) } else { (2, None) }
     }
 
     fn successors(&self, task: u32) -> &[u32] {
-        if task == 0 { &[1] } else { &[] }
+        match (task, self.has_third) {
+            (0, false) => &[1],
+            (0, true) => &[1, 2],
+            (1, true) => &[2],
+            _ => &[],
+        }
     }
 
     fn waits(&self, task: u32) -> u32 {
@@ -83,128 +116,232 @@ impl Work for Family {
     }
 
     fn weight(&self, task: u32) -> u64 {
-        if task == 0 { 2 } else { 1 }
+        match task {
+            0 => 2,
+            1 => 1,
+            _ => 0,
+        }
     }
 
-    fn apply(&self, task: u32, first: &mut [Marks], _second: &mut [Marks]) {
+    fn apply(&self, task: u32, first: &mut [Marks], second: &mut [Marks]) {
         first[0].mark(task);
+        if let Some(marks) = second.first_mut() {
+            marks.mark(task);
+        }
     }
 }
 
 /// Plays a step on the family.
-fn step(alloc: Global, state: &mut State, seat: u32, step: Step) -> Result<bool, AllocError>
-    requires { state.old.shape ≡ family }
-    ensures shape { state.new.shape ≡ family }
+fn step(
+    alloc: Global,
+    work: &Family,
+    state: &mut State,
+    seat: u32,
+    step: Step,
+) -> Result<bool, AllocError>
+    requires { state.old.shape ≡ family work.now.has_tasks work.now.has_third }
+    ensures shape { state.new.shape ≡ family work.now.has_tasks work.now.has_third }
     ensures seats { length state.new.core.views ≡ length state.old.core.views }
 {
-    play(alloc, &Family, state, Event { seat, step })
+    play(alloc, work, state, Event { seat, step })
 }
 
 /// The words of the cells.
-fn words(state: &State) -> [u64; 4]
-    requires { state.now.shape ≡ family }
+fn words(work: &Family, state: &State) -> [u64; 4]
+    requires { state.now.shape ≡ family work.now.has_tasks work.now.has_third }
 {
+    let _ = work;
     [state.word(0), state.word(1), state.word(2), state.word(3)]
+}
+
+/// Seat 0 locks a cell and raises the two cells above it: whether each step was allowed.
+fn takes(alloc: Global, work: &Family, state: &mut State, cell: u32) -> Result<bool, AllocError>
+    requires { state.old.shape ≡ family work.now.has_tasks work.now.has_third }
+    ensures shape { state.new.shape ≡ family work.now.has_tasks work.now.has_third }
+    ensures seats { length state.new.core.views ≡ length state.old.core.views }
+{
+    let locked = step(alloc, work, state, 0, Step::Lock { cell })?;
+    let parent = step(alloc, work, state, 0, Step::Raise)?;
+    let top = step(alloc, work, state, 0, Step::Raise)?;
+    Ok(locked && parent && top)
+}
+
+/// Seat 0 gives its newest cell back: whether each step was allowed.
+fn gives_back(alloc: Global, work: &Family, state: &mut State) -> Result<bool, AllocError>
+    requires { state.old.shape ≡ family work.now.has_tasks work.now.has_third }
+    ensures shape { state.new.shape ≡ family work.now.has_tasks work.now.has_third }
+    ensures seats { length state.new.core.views ≡ length state.old.core.views }
+{
+    let top = step(alloc, work, state, 0, Step::Lower)?;
+    let parent = step(alloc, work, state, 0, Step::Lower)?;
+    let unlocked = step(alloc, work, state, 0, Step::Unlock)?;
+    Ok(top && parent && unlocked)
+}
+
+/// Seat 0 claims a task, and fetches and returns leaf 0: whether each step was allowed.
+fn works_on(alloc: Global, work: &Family, state: &mut State, task: u32) -> Result<bool, AllocError>
+    requires { state.old.shape ≡ family work.now.has_tasks work.now.has_third }
+    ensures shape { state.new.shape ≡ family work.now.has_tasks work.now.has_third }
+    ensures seats { length state.new.core.views ≡ length state.old.core.views }
+{
+    let claimed = step(alloc, work, state, 0, Step::Claim { task })?;
+    let fetched = step(alloc, work, state, 0, Step::Fetch { leaf: 0 })?;
+    let returned = step(alloc, work, state, 0, Step::Return { leaf: 0 })?;
+    Ok(claimed && fetched && returned)
+}
+
+/// Plays a step on the cells alone: whether it was allowed and left these words of the cells.
+fn leads_to(
+    alloc: Global,
+    state: &mut State,
+    seat: u32,
+    next: Step,
+    after: [u64; 4],
+) -> Result<bool, AllocError>
+    requires { state.old.shape ≡ family false false }
+    ensures shape { state.new.shape ≡ family false false }
+    ensures seats { length state.new.core.views ≡ length state.old.core.views }
+{
+    let allowed = step(alloc, &CELLS, state, seat, next)?;
+    Ok(allowed && words(&CELLS, state) == after)
+}
+
+/// A note that a seat has.
+fn noted(number: u64, kind: StepKind, cell: u32, seen: u64) -> Option<Note> {
+    Some(Note {
+        number,
+        kind,
+        cell,
+        seen,
+    })
 }
 
 #[test]
 fn a_raise_finds_a_lock_and_gives_way(rt: HostRuntime) -> Result<(), Fail> {
     let alloc = rt.alloc();
-    let mut state = State::new(alloc, &Family, 3)?;
+    let mut state = State::new(alloc, &CELLS, 3)?;
     let state = &mut state;
-    assert!(rt; step(alloc, state, 0, Step::Lock { cell: 0 })?);
+    assert!(rt; leads_to(alloc, state, 0, Step::Lock { cell: 0 }, [1, 0, 0, 0])?);
     assert!(rt; state.owns(0, 0));
-    assert!(rt; step(alloc, state, 1, Step::Lock { cell: 2 })?);
-    assert!(rt; step(alloc, state, 1, Step::Raise)?);
-    assert!(rt; step(alloc, state, 1, Step::Raise)?);
-    assert_eq!(rt; words(state), [3, 2, 1, 0]);
-    let note = Note {
-        number: 3,
-        kind: StepKind::Raise,
-        cell: 0,
-        seen: 1,
-    };
-    assert_eq!(rt; state.note(1), Some(note));
+    assert!(rt; leads_to(alloc, state, 1, Step::Lock { cell: 2 }, [1, 0, 1, 0])?);
+    assert!(rt; leads_to(alloc, state, 1, Step::Raise, [1, 2, 1, 0])?);
+    assert!(rt; leads_to(alloc, state, 1, Step::Raise, [3, 2, 1, 0])?);
+    assert_eq!(rt; state.note(1), noted(3, StepKind::Raise, 0, 1));
     assert!(rt; !state.owns(1, 2));
-    assert!(rt; step(alloc, state, 0, Step::Unlock)?);
-    assert_eq!(rt; words(state), [2, 2, 1, 0]);
-    assert!(rt; step(alloc, state, 2, Step::Lock { cell: 0 })?);
-    let note = Note {
-        number: 1,
-        kind: StepKind::Lock,
-        cell: 0,
-        seen: 2,
-    };
-    assert_eq!(rt; state.note(2), Some(note));
+    assert!(rt; leads_to(alloc, state, 0, Step::Unlock, [2, 2, 1, 0])?);
+    assert!(rt; leads_to(alloc, state, 2, Step::Lock { cell: 0 }, [2, 2, 1, 0])?);
+    assert_eq!(rt; state.note(2), noted(1, StepKind::Lock, 0, 2));
     assert!(rt; !state.owns(2, 0));
-    assert!(rt; step(alloc, state, 1, Step::Lower)?);
-    assert_eq!(rt; words(state), [0, 2, 1, 0]);
-    assert!(rt; step(alloc, state, 2, Step::Lock { cell: 0 })?);
+    assert!(rt; leads_to(alloc, state, 1, Step::Lower, [0, 2, 1, 0])?);
+    assert!(rt; leads_to(alloc, state, 2, Step::Lock { cell: 0 }, [1, 2, 1, 0])?);
     assert!(rt; state.owns(2, 0));
-    assert!(rt; step(alloc, state, 1, Step::Lower)?);
-    assert!(rt; step(alloc, state, 1, Step::Unlock)?);
-    assert_eq!(rt; words(state), [1, 0, 0, 0]);
-    assert!(rt; !step(alloc, state, 1, Step::Raise)?);
-    assert_eq!(rt; words(state), [1, 0, 0, 0]);
-    let note = Note {
-        number: 6,
-        kind: StepKind::Unlock,
-        cell: 2,
-        seen: 1,
-    };
-    assert_eq!(rt; state.note(1), Some(note));
+    assert!(rt; leads_to(alloc, state, 1, Step::Lower, [1, 0, 1, 0])?);
+    assert!(rt; leads_to(alloc, state, 1, Step::Unlock, [1, 0, 0, 0])?);
+    assert!(rt; !step(alloc, &CELLS, state, 1, Step::Raise)?);
+    assert_eq!(rt; words(&CELLS, state), [1, 0, 0, 0]);
+    assert_eq!(rt; state.note(1), noted(6, StepKind::Unlock, 2, 1));
     Ok(())
 }
 
 #[test]
 fn one_seat_runs_both_tasks(rt: HostRuntime) -> Result<(), Fail> {
     let alloc = rt.alloc();
-    let mut state = State::new(alloc, &Family, 1)?;
+    let mut state = State::new(alloc, &TASKS, 1)?;
     let state = &mut state;
     assert_eq!(rt; state.wait(1), 1);
-    assert!(rt; step(alloc, state, 0, Step::Lock { cell: 2 })?);
-    assert!(rt; step(alloc, state, 0, Step::Raise)?);
-    assert!(rt; step(alloc, state, 0, Step::Raise)?);
-    assert!(rt; step(alloc, state, 0, Step::Claim { task: 1 })?);
-    let note = Note {
-        number: 4,
-        kind: StepKind::Claim,
-        cell: 1,
-        seen: 1,
-    };
-    assert_eq!(rt; state.note(0), Some(note));
+    assert!(rt; takes(alloc, &TASKS, state, 2)?);
+    assert!(rt; step(alloc, &TASKS, state, 0, Step::Claim { task: 1 })?);
+    assert_eq!(rt; state.note(0), noted(4, StepKind::Claim, 1, 1));
     assert_eq!(rt; state.wait(1), 1);
-    assert!(rt; step(alloc, state, 0, Step::Claim { task: 0 })?);
-    assert!(rt; step(alloc, state, 0, Step::Fetch { leaf: 0 })?);
+    assert!(rt; step(alloc, &TASKS, state, 0, Step::Claim { task: 0 })?);
+    assert!(rt; step(alloc, &TASKS, state, 0, Step::Fetch { leaf: 0 })?);
     assert!(rt; state.is_out(0));
     assert!(rt; !state.is_done(0, 0));
-    assert!(rt; step(alloc, state, 0, Step::Return { leaf: 0 })?);
+    assert!(rt; step(alloc, &TASKS, state, 0, Step::Return { leaf: 0 })?);
     assert!(rt; state.is_done(0, 0));
-    assert!(rt; step(alloc, state, 0, Step::Release)?);
+    assert!(rt; step(alloc, &TASKS, state, 0, Step::Release)?);
     assert_eq!(rt; state.wait(1), 0);
-    assert!(rt; step(alloc, state, 0, Step::Claim { task: 1 })?);
-    assert!(rt; step(alloc, state, 0, Step::Fetch { leaf: 0 })?);
-    assert!(rt; step(alloc, state, 0, Step::Return { leaf: 0 })?);
+    assert!(rt; works_on(alloc, &TASKS, state, 1)?);
     assert!(rt; state.is_done(0, 1));
     assert!(rt; !state.is_out(0));
-    assert!(rt; step(alloc, state, 0, Step::Claim { task: 0 })?);
-    let note = Note {
-        number: 12,
-        kind: StepKind::Claim,
-        cell: 0,
-        seen: 1 << 63,
-    };
-    assert_eq!(rt; state.note(0), Some(note));
+    assert!(rt; step(alloc, &TASKS, state, 0, Step::Claim { task: 0 })?);
+    assert_eq!(rt; state.note(0), noted(12, StepKind::Claim, 0, 1 << 63));
+    assert_eq!(rt; state.wait(0), 1 << 63);
+    assert_eq!(rt; state.wait(1), 1 << 63);
+    assert!(rt; state.is_done(0, 0));
+    assert!(rt; !state.is_done(1, 0));
+    assert!(rt; gives_back(alloc, &TASKS, state)?);
+    assert_eq!(rt; words(&TASKS, state), [0, 0, 0, 0]);
     Ok(())
 }
 
 #[test]
+fn the_second_cell_alone_is_too_little(rt: HostRuntime) -> Result<(), Fail> {
+    let alloc = rt.alloc();
+    let mut state = State::new(alloc, &THREE, 1)?;
+    let state = &mut state;
+    assert!(rt; takes(alloc, &THREE, state, 3)?);
+    assert!(rt; state.owns(0, 3));
+    assert!(rt; !step(alloc, &THREE, state, 0, Step::Claim { task: 2 })?);
+    Ok(())
+}
+
+#[test]
+fn a_task_on_two_cells_wants_both(rt: HostRuntime) -> Result<(), Fail> {
+    let alloc = rt.alloc();
+    let mut state = State::new(alloc, &THREE, 1)?;
+    let state = &mut state;
+    assert_eq!(rt; state.wait(2), 2);
+    assert!(rt; takes(alloc, &THREE, state, 2)?);
+    assert!(rt; works_on(alloc, &THREE, state, 0)?);
+    assert!(rt; step(alloc, &THREE, state, 0, Step::Release)?);
+    assert!(rt; step(alloc, &THREE, state, 0, Step::Release)?);
+    assert_eq!(rt; state.wait(2), 1);
+    assert!(rt; works_on(alloc, &THREE, state, 1)?);
+    assert!(rt; step(alloc, &THREE, state, 0, Step::Release)?);
+    assert_eq!(rt; state.wait(2), 0);
+    assert!(rt; !step(alloc, &THREE, state, 0, Step::Claim { task: 2 })?);
+    assert!(rt; takes(alloc, &THREE, state, 3)?);
+    assert_eq!(rt; words(&THREE, state), [4, 4, 1, 1]);
+    assert!(rt; !step(alloc, &THREE, state, 0, Step::Claim { task: 0 })?);
+    assert!(rt; works_on(alloc, &THREE, state, 2)?);
+    assert!(rt; state.is_done(0, 2));
+    assert!(rt; !state.is_done(1, 2));
+    assert!(rt; step(alloc, &THREE, state, 0, Step::Fetch { leaf: 1 })?);
+    assert!(rt; step(alloc, &THREE, state, 0, Step::Return { leaf: 1 })?);
+    assert!(rt; state.is_done(1, 2));
+    assert!(rt; gives_back(alloc, &THREE, state)?);
+    assert!(rt; gives_back(alloc, &THREE, state)?);
+    assert_eq!(rt; words(&THREE, state), [0, 0, 0, 0]);
+    Ok(())
+}
+
+/// The marks of a leaf.
+fn marked(zeroth: bool, first: bool, second: bool) -> Marks
+    ensures { result ≡ record { zeroth = zeroth; first = first; second = second } }
+{
+    Marks {
+        zeroth,
+        first,
+        second,
+    }
+}
+
+#[test]
 fn a_task_marks_its_leaf(rt: HostRuntime) {
-    let mut first = [Marks {
-        zeroth: false,
-        first: false,
-    }];
-    Family.apply(0, &mut first, &mut []);
-    let [marks] = first;
-    assert!(rt; marks.zeroth && !marks.first);
+    let mut first = [marked(false, false, false)];
+    TASKS.apply(0, &mut first, &mut []);
+    let [left] = first;
+    assert_eq!(rt; left, marked(true, false, false));
+}
+
+#[test]
+fn a_task_on_two_cells_marks_both(rt: HostRuntime) {
+    let mut first = [marked(true, true, false)];
+    let mut second = [marked(false, false, false)];
+    THREE.apply(2, &mut first, &mut second);
+    let [left] = first;
+    let [right] = second;
+    assert_eq!(rt; left, marked(true, true, true));
+    assert_eq!(rt; right, marked(false, false, true));
 }

@@ -1,4 +1,4 @@
-use Rattle.std.proofs.Common.{◌<◌, ◌^◌, subst, sym, rules}
+use Rattle.std.proofs.Common.{subst, sym}
 use Rattle.qs_core.specs.Machine.{IsMachine}
 use Rattle.qs_core.proofs.Copied.{made_is, made_of_lists}
 use Rattle.qs_core.proofs.state.State.new.Goals as goal
@@ -6,7 +6,6 @@ use Rattle.qs_core.proofs.state.State.new.Goals as goal
 pub invariant_of-result : goal.invariant_of-result
 invariant_of-result g c =
     let shape = g.W.Work.shape (g.W.Work.plan c.args.work.now) in
-    let few : c.args.seats < 2 ^ 32 = search rules in
     let is = made_of_lists shape c.in_ok-layout.layout c.args.seats c.in_ok-words.words.items c.in_ok-empty.empty.items c.in_ok-notes.notes.items c.in_ok-layout.ensures.value
     c.in_ok-words.ensures c.in_ok-empty.ensures c.in_ok-notes.ensures in
-    subst IsMachine (sym is) (made_is shape c.args.seats c.of.ensures.laws few)
+    subst IsMachine (sym is) (made_is shape c.args.seats c.of.ensures.laws)

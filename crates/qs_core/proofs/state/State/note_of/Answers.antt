@@ -3,7 +3,7 @@ use Rattle.qs_core.specs.Core.{view_at, word_count}
 use Rattle.qs_core.specs.Machine.{IsMachine}
 use Rattle.qs_core.specs.Steps.{object_of, word_of}
 use Rattle.qs_core.proofs.Played.{place_within}
-use Rattle.qs_core.proofs.state.State.note_after.Goals as goal
+use Rattle.qs_core.proofs.state.State.note_of.Goals as goal
 
 pub word_at-requires : goal.word_at-requires
 word_at-requires c =
