@@ -104,3 +104,12 @@ CubeContains-holding a b point l m p q = record {
   level = l;
   within = λ axis h. ap (λ x. x / 2 ^ (b.level - a.level)) (sym (q axis h)) ∙ shr_twice (slice_index point axis) (20 - b.level) (b.level - a.level) (20 - a.level) (omega arith) ∙ p axis h;
 }
+
+-- of two cubes that contain a third one the larger contains the other
+pub CubeContains-sharing : (a b c : Cube) → a.level ≤ b.level → CubeContains a c → CubeContains b c → CubeContains a b
+CubeContains-sharing a b c l p q =
+    let high = q.level in
+    record {
+      level = l;
+      within = λ axis h. ap (λ x. x / 2 ^ (b.level - a.level)) (sym (q.within axis h)) ∙ shr_twice (slice_index c.at axis) (c.level - b.level) (b.level - a.level) (c.level - a.level) (omega arith) ∙ p.within axis h;
+    }

@@ -6,7 +6,8 @@ use Rattle.cell_tree.specs.Laws.{CanBeMade}
 use Rattle.cell_tree.specs.Tree.{Made, child_cell, cells_of, cell_at, is_leaf, IsParent}
 use Rattle.cell_tree.proofs.Cubes.{CubeContains-trans, CubeContains-turned, octant-below}
 use Rattle.cell_tree.proofs.Counts.{octant_in}
-use Rattle.cell_tree.proofs.Members.{sound_at, Contains-filter, octants_place}
+use Rattle.sph_num.proofs.Members.{Contains-filter}
+use Rattle.cell_tree.proofs.Members.{sound_at, octants_place}
 use Rattle.cell_tree.proofs.Partition.{tree_nests, tree_parents}
 use Rattle.cell_tree.proofs.Shape.{Holds, size_in, cells_under-first}
 use Rattle.cell_tree.proofs.Under.{cells_under-split}

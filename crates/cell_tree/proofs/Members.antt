@@ -1,9 +1,9 @@
 -- Which points the cells of a tree have as their members.
-use Rattle.std.proofs.Common.{◌≡◌, ℕ, zero, suc, ◌+◌, ◌/◌, ◌^◌, ◌<◌, ◌≤◌, Bool, true, false, cond, eqb, List, [], ◌∷◌, length, get_or, filter, slice_index, slice_index_or, refl, sym, ap, ◌∙◌, subst, inl, inr, length-append, arith}
-use Rattle.std.specs.List.{Contains, All}
+use Rattle.std.proofs.Common.{◌≡◌, ℕ, zero, suc, ◌+◌, ◌/◌, ◌^◌, ◌<◌, ◌≤◌, true, false, eqb, List, [], ◌∷◌, length, get_or, slice_index, slice_index_or, refl, sym, ap, ◌∙◌, subst, inl, inr, length-append, arith}
+use Rattle.std.specs.List.{Contains}
 use Rattle.std.proofs.lemmas.Bool.{cases_eq, eqb-true, eq-eqb, ne_eqb}
 use Rattle.std.proofs.lemmas.List.{get_or_append_left, get_or-append-add}
-use Rattle.std.proofs.lemmas.List.Elements.{All-nil, All-cons, All-filter, filter_passes, All-contains, All-contains_itself}
+use Rattle.sph_num.proofs.Members.{cases_Contains-cons, Contains-nil, Contains-later, Contains-filter, Contains-from_filter, passes_from_filter}
 use Rattle.cell_geom.specs.Cube.{cube_holds, child_of}
 use Rattle.cell_tree.specs.Tree.{Made, Cell, child_cell, cells_of, cell_at, root_cube, numbers_from, no_cell, is_leaf}
 use Rattle.cell_tree.specs.Laws.{CanBeMade}
@@ -14,48 +14,35 @@ use Rattle.cell_tree.proofs.Counts.{octant_in}
 use Rattle.cell_tree.proofs.Shape.{at, each_below}
 use Rattle.cell_tree.proofs.Under.{IsSplit, cells_under_induction}
 
--- a filter keeps what passes
-pub Contains-filter : {X : Type 0} (p : X → Bool) (xs : List X) (x : X) → p x ≡ true → Contains xs x → Contains (filter p xs) x
-Contains-filter p [] x t c = absurd (let l = c.1 in omega arith)
-Contains-filter p (y ∷ ys) x t c = place (Contains-filter p ys x t) c.0 c.1 c.2
-  where
-    later : Contains (filter p ys) x → Contains (cond (p y) (y ∷ filter p ys) (filter p ys)) x
-    later v =
-        elim (p y) as (λ b. Contains (cond b (y ∷ filter p ys) (filter p ys)) x) [ true ↦ (suc v.0, let l = v.1 in omega arith, v.2) | false ↦ v ]
-
-    place : (Contains ys x → Contains (filter p ys) x) → (k : ℕ) → k < length (y ∷ ys) → get_or (y ∷ ys) k x ≡ x → Contains (cond (p y) (y ∷ filter p ys) (filter p ys)) x
-    place ih zero l e = let t' : p y ≡ true = ap p e ∙ t in rw t' (0, omega arith, e)
-    place ih (suc k) l e = later (ih (k, omega arith, e))
-
--- what a filter keeps was there
-pub Contains-from_filter : {X : Type 0} (p : X → Bool) (xs : List X) (x : X) → Contains (filter p xs) x → Contains xs x
-Contains-from_filter p xs x c = All-contains (Contains xs) (filter p xs) x (All-filter p (Contains xs) xs (All-contains_itself xs)) c
-
--- what a filter keeps passes
-pub passes_from_filter : {X : Type 0} (p : X → Bool) (xs : List X) (x : X) → Contains (filter p xs) x → p x ≡ true
-passes_from_filter p xs x c = All-contains (λ y. p y ≡ true) (filter p xs) x (filter_passes p xs) c
-
 -- how many numbers there are
 pub length-numbers_from : (first n : ℕ) → length (numbers_from first n) ≡ n
 length-numbers_from first zero = refl
 length-numbers_from first (suc n) = ap suc (length-numbers_from (suc first) n)
 
--- the numbers are below their end
-All-numbers_from : (first n : ℕ) → All (λ i. i < first + n) (numbers_from first n)
-All-numbers_from first zero = All-nil (λ i. i < first + 0)
-All-numbers_from first (suc n) = All-cons (λ i. i < first + suc n) first (numbers_from (suc first) n) (omega arith) (subst (λ m. All (λ i. i < m) (numbers_from (suc first) n)) (omega arith) (All-numbers_from (suc first) n))
+-- the number at a place
+pub get_or-numbers_from : (first n k d : ℕ) → k < n → get_or (numbers_from first n) k d ≡ first + k
+get_or-numbers_from first zero k d l = absurd (omega arith)
+get_or-numbers_from first (suc n) zero d l = omega arith
+get_or-numbers_from first (suc n) (suc k) d l = get_or-numbers_from (suc first) n k d (omega arith) ∙ omega arith
+
+-- the numbers from the first on are no less, and below their end
+pub Contains-numbers_from-le : (first n i : ℕ) → Contains (numbers_from first n) i → (first ≤ i) × (i < first + n)
+Contains-numbers_from-le first zero i c = absurd (Contains-nil i c)
+Contains-numbers_from-le first (suc n) i c =
+    cases_Contains-cons ((first ≤ i) × (i < first + suc n)) first (numbers_from (suc first) n) i (λ e. (omega arith, omega arith))
+    (λ w. let b = Contains-numbers_from-le (suc first) n i w in (omega (arith, b.0), omega (arith, b.1))) c
 
 -- the numbers from 0 on are below their count
 pub below_from_numbers : (n i : ℕ) → Contains (numbers_from 0 n) i → i < n
-below_from_numbers n i c = let l = All-contains (λ k. k < 0 + n) (numbers_from 0 n) i (All-numbers_from 0 n) c in omega arith
+below_from_numbers n i c = let b = Contains-numbers_from-le 0 n i c in omega (arith, b.1)
 
 -- each number between the ends is there
-Contains-numbers_from : (first n i : ℕ) → first ≤ i → i < first + n → Contains (numbers_from first n) i
+pub Contains-numbers_from : (first n i : ℕ) → first ≤ i → i < first + n → Contains (numbers_from first n) i
 Contains-numbers_from first zero i low high = absurd (omega arith)
 Contains-numbers_from first (suc n) i low high =
     elim (cases_eq first i) [
       | inl e ↦ (0, omega arith, e)
-      | inr ne ↦ let w = Contains-numbers_from (suc first) n i (omega arith) (omega arith) in (suc w.0, let l = w.1 in omega arith, w.2)
+      | inr ne ↦ Contains-later first (numbers_from (suc first) n) i (Contains-numbers_from (suc first) n i (omega arith) (omega arith))
     ]
 
 -- each number below the count is there

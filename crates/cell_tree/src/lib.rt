@@ -3,10 +3,12 @@
 
 mod cells;
 mod children;
+mod due;
 mod grow;
 mod leaves;
 mod node;
 mod octants;
 mod tree;
 
+pub use due::{due_leaves, has_due};
 pub use tree::{Span, Tree};

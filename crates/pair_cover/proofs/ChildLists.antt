@@ -8,12 +8,15 @@ use Rattle.std.proofs.lemmas.List.Folds.{Any-from_list_any, list_any-from_Any}
 use Rattle.std.proofs.lemmas.List.Kept.{AllPairs-filter, AllPairs-from_increasing}
 use Rattle.std.proofs.lemmas.List.Sums.{length-filter}
 use Rattle.cell_tree.specs.Laws.{CanBeMade}
+use Rattle.cell_tree.specs.Spans.{count_of}
 use Rattle.cell_tree.specs.Tree.{Made, cells_of, cell_at, numbers_from, IsParent}
 use Rattle.cell_tree.proofs.Bounds.{members_rise}
-use Rattle.cell_tree.proofs.Members.{Contains-filter, passes_from_filter, Contains-numbers}
-use Rattle.pair_cover.specs.Looks.{is_octant_of, children_of, count_of}
-use Rattle.pair_cover.proofs.Families.{IsParent-from_children, test_from_IsParent, outer_member, same_cell}
-use Rattle.pair_cover.proofs.Rising.{Rises, same_rising, Rises-numbers_from, count_one, parts_most, sum_by-le_each}
+use Rattle.sph_num.proofs.Members.{Contains-filter, passes_from_filter}
+use Rattle.cell_tree.proofs.Members.{Contains-numbers}
+use Rattle.cell_tree.proofs.SharedMembers.{outer_member}
+use Rattle.pair_cover.specs.Looks.{is_octant_of, children_of}
+use Rattle.pair_cover.proofs.Families.{IsParent-from_children, test_from_IsParent, same_cell}
+use Rattle.cell_tree.proofs.Rising.{Rises, same_rising, Rises-numbers_from, count_one, parts_most, sum_by-le_each}
 
 -- the children rise
 pub children_rise : (made : Made) (cell : ℕ) → Rises (children_of made cell)

@@ -3,15 +3,16 @@ use Rattle.std.proofs.Common.{◌≡◌, ℕ, zero, suc, ◌+◌, ◌*◌, ◌<�
 use Rattle.std.specs.List.{Contains}
 use Rattle.std.proofs.lemmas.Bool.{cases_Bool, true≢false, or_cases, or_parts, not-true, leb-true}
 use Rattle.std.proofs.lemmas.List.Folds.{list_any_at}
-use Rattle.pair_cover.specs.Cover.{Meets, MeetsItself}
+use Rattle.sph_num.specs.Cover.{Meets, MeetsItself}
 use Rattle.cell_tree.specs.declared.tree.Span.{Span}
+use Rattle.cell_tree.specs.Due.{has_due}
 use Rattle.cell_tree.specs.Laws.{CanBeMade}
 use Rattle.cell_tree.specs.Tree.{Made, cell_at, cells_of, is_leaf}
 use Rattle.cell_tree.proofs.Members.{sound_at, root, Contains-numbers}
 use Rattle.cell_tree.proofs.Shape.{cells_under-first}
 use Rattle.pair_cover.specs.declared.spans.Limits.{Limits}
 use Rattle.pair_cover.specs.Covering.{group_of, AreMoved, AreInReach, CoversMoved}
-use Rattle.pair_cover.specs.Looks.{children_of, has_due, drops, stops, splits_first, pair_spans, self_spans, twos, most_looks, spans_of, reach_of_two, gap2_of}
+use Rattle.pair_cover.specs.Looks.{children_of, drops, stops, splits_first, pair_spans, self_spans, twos, most_looks, spans_of, reach_of_two, gap2_of}
 use Rattle.pair_cover.proofs.Distances.{not_in_reach, not_in_reach_turned}
 use Rattle.pair_cover.proofs.LookCases.{first_more, second_more, pairs_none, pairs_dropped, pairs_stopped, pairs_first, pairs_second, ends, selves_dropped, selves_stopped, selves_split}
 use Rattle.pair_cover.proofs.Families.{IsParent-from_children, total-children}

@@ -1,20 +1,17 @@
 -- Each member of a split cell is in just one of its children.
-use Rattle.std.proofs.Common.{◌≡◌, ℕ, zero, suc, ◌-◌, ◌/◌, ◌^◌, ◌<◌, ◌≤◌, true, false, eqb, [], length, slice_index, slice_index_or, sym, ap, ◌∙◌, subst, inl, inr, arith}
+use Rattle.std.proofs.Common.{◌≡◌, ℕ, zero, suc, ◌-◌, ◌/◌, ◌^◌, ◌<◌, ◌≤◌, true, false, length, slice_index, sym, ap, ◌∙◌, subst, inl, inr, arith}
 use Rattle.std.specs.List.{Contains}
 use Rattle.std.proofs.lemmas.Bool.{cases_lt, cases_eq, cases_order, and_parts, and_from, eqb-true, eq-eqb, true≢false}
 use Rattle.cell_geom.specs.declared.cube.Cube.{Cube}
-use Rattle.cell_geom.specs.Cube.{cube_holds, octant_of, child_of, CubeContains}
-use Rattle.cell_geom.proofs.Nesting.{cube_holds-outer}
-use Rattle.cell_tree.specs.Tree.{Made, Cell, child_cell, cells_of, cell_at, is_leaf, IsParent, numbers_from}
+use Rattle.cell_geom.specs.Cube.{CubeContains}
+use Rattle.cell_tree.specs.Tree.{Made, cells_of, cell_at, is_leaf, IsParent, numbers_from}
 use Rattle.cell_tree.specs.Laws.{CanBeMade}
-use Rattle.cell_tree.specs.Nodes.{IsSound}
-use Rattle.cell_tree.proofs.Counts.{octant_in}
-use Rattle.cell_tree.proofs.Cubes.{CubeContains-self, CubeContains-child, CubeContains-holding, child_apart, IsCube-child, octant-below, cube_holds-child}
 use Rattle.cell_tree.proofs.Family.{run_inside, run_outside, level_deeper, parent_run}
-use Rattle.cell_tree.proofs.Members.{Contains-filter, Contains-from_filter, passes_from_filter, below_from_numbers, Contains-numbers, IsSound-child, IsSound-root, root, sound_at}
+use Rattle.sph_num.proofs.Members.{Contains-from_filter, passes_from_filter}
+use Rattle.cell_tree.proofs.Members.{below_from_numbers}
 use Rattle.cell_tree.proofs.Partition.{tree_parents, leaf_alone, IsPartition-from_CanBeMade}
-use Rattle.cell_tree.proofs.Shape.{Holds, each_below}
-use Rattle.cell_tree.proofs.Under.{IsSplit}
+use Rattle.cell_tree.proofs.Shape.{Holds}
+use Rattle.cell_tree.proofs.SharedMembers.{is_held, outer_member, holds_sharing}
 use Rattle.pair_cover.specs.Looks.{is_octant_of, children_of}
 use Rattle.pair_cover.proofs.Shares.{share, share_cases, share_other, share_member}
 use Rattle.pair_cover.proofs.Totals.{total, total-none, total-only}
@@ -25,26 +22,6 @@ each_axis P x y z zero h = x
 each_axis P x y z (suc zero) h = y
 each_axis P x y z (suc (suc zero)) h = z
 each_axis P x y z (suc (suc (suc n))) h = absurd (omega arith)
-
--- the cell has all points that its cube holds
-record IsFilled (made : Made) (cell : Cell) : Type 0 where
-  sound : IsSound made cell
-  all : (i : ℕ) → i < length made.points → cube_holds cell.cube (slice_index_or made.points i []) → Contains cell.members i
-
--- so has an octant of it
-IsFilled-child : (made : Made) (cell : Cell) (octant : ℕ) → IsFilled made cell → IsSplit made cell → octant < 8 → 0 < length (child_cell made.points cell octant).members → IsFilled made (child_cell made.points cell octant)
-IsFilled-child made cell octant filled split l some = record {
-  sound = IsSound-child made cell octant filled.sound split l some;
-  all = λ i m h.
-      let point = slice_index_or made.points i [] in
-      let level = split.level in
-      let other = octant_of cell.cube.level point in
-      let outer = cube_holds-outer cell.cube (child_of cell.cube octant) point (IsCube-child cell.cube octant split.level filled.sound.in_box) (CubeContains-child cell.cube octant) h in
-      let inner = cube_holds-child cell.cube point split.level outer in
-      let lies = CubeContains-holding (child_of cell.cube other) (child_of cell.cube octant) point (omega arith) (omega arith) inner h in
-      let same = child_apart cell.cube (child_of cell.cube octant) other octant (octant-below cell.cube.level point) l lies (CubeContains-self (child_of cell.cube octant)) in
-      Contains-filter (λ k. eqb (octant_in made cell k) octant) cell.members i (eq-eqb other octant same) (filled.all i m outer);
-}
 
 -- a half of a place, as a shift by one level
 shift_from_half : (x at l m : ℕ) → l ≡ suc m → x / 2 ≡ at → x / 2 ^ (l - m) ≡ at
@@ -75,33 +52,12 @@ octant_contained outer inner next h =
     and_from _ _ (and_from _ _ (and_from _ _ (eq-eqb _ _ next) (eq-eqb _ _ (half 0 (omega arith)))) (eq-eqb _ _ (half 1 (omega arith)))) (eq-eqb _ _ (half 2 (omega arith)))
 
 module _ (made : Made) (can : CanBeMade made) where
-  -- a cell has all points that its cube holds
-  pub is_member : (cell i : ℕ) → cell < length (cells_of made) → i < length made.points → cube_holds (cell_at made cell).cube (slice_index_or made.points i []) → Contains (cell_at made cell).members i
-  is_member cell i l =
-      (each_below made (IsFilled made) (IsFilled-child made) (root made) (record { sound = IsSound-root made can; all = λ i m h. Contains-numbers (length made.points) i m }) cell l).all i
-
-  -- the cube of a cell holds its members
-  pub is_held : (cell i : ℕ) → cell < length (cells_of made) → Contains (cell_at made cell).members i → (i < length made.points) × cube_holds (cell_at made cell).cube (slice_index_or made.points i [])
-  is_held cell i l c = (sound_at made can cell l).members i c
-
-  -- what an inner cell has the outer one has
-  pub outer_member : (a b i : ℕ) → a < length (cells_of made) → b < length (cells_of made) → Holds (cell_at made a) (cell_at made b) → Contains (cell_at made b).members i → Contains (cell_at made a).members i
-  outer_member a b i l m h c =
-      let w = is_held b i m c in
-      is_member a i l w.0 (cube_holds-outer (cell_at made a).cube (cell_at made b).cube (slice_index_or made.points i []) (sound_at made can b m).in_box h w.1)
-
-  -- of two cells that share a member the one of the smaller level contains the other
-  pub holds_sharing : (a b i : ℕ) → a < length (cells_of made) → b < length (cells_of made) → (cell_at made a).cube.level ≤ (cell_at made b).cube.level
-      → Contains (cell_at made a).members i → Contains (cell_at made b).members i → Holds (cell_at made a) (cell_at made b)
-  holds_sharing a b i l m low c d =
-      CubeContains-holding (cell_at made a).cube (cell_at made b).cube (slice_index_or made.points i []) low (sound_at made can b m).in_box.level (is_held a i l c).1 (is_held b i m d).1
-
   -- two cells of one level that share a member are one
   pub same_cell : (a b i : ℕ) → a < length (cells_of made) → b < length (cells_of made) → (cell_at made a).cube.level ≡ (cell_at made b).cube.level
       → Contains (cell_at made a).members i → Contains (cell_at made b).members i → a ≡ b
   same_cell a b i l m e c d =
-      let up = run_outside made a b l m (holds_sharing a b i l m (omega arith) c d) in
-      let down = run_outside made b a m l (holds_sharing b a i m l (omega arith) d c) in
+      let up = run_outside made a b l m (holds_sharing made can a b i l m (omega arith) c d) in
+      let down = run_outside made b a m l (holds_sharing made can b a i m l (omega arith) d c) in
       let p = up.0 in let q = down.0 in
       omega arith
 
@@ -149,7 +105,7 @@ module _ (made : Made) (can : CanBeMade made) where
               absurd (omega arith)
           | inr above ↦
               child_above cell i fuel w.0 (omega arith) above (omega arith) (run_inside made cell w.0 (omega arith) (omega arith) (omega arith))
-              (outer_member w.0 d i (omega arith) l w.1.contains c)
+              (outer_member made can w.0 d i (omega arith) l w.1.contains c)
         ]
       ]
 
@@ -157,19 +113,19 @@ module _ (made : Made) (can : CanBeMade made) where
   pub child_with : (cell i : ℕ) → cell < length (cells_of made) → is_leaf made (cell_at made cell) ≡ false → Contains (cell_at made cell).members i
       → (child : ℕ) × IsParent made cell child × Contains (cell_at made child).members i
   child_with cell i l f c =
-      let w = (IsPartition-from_CanBeMade made can).leaf_of_point i (is_held cell i l c).0 in
+      let w = (IsPartition-from_CanBeMade made can).leaf_of_point i (is_held made can cell i l c).0 in
       let d = w.1 in
       let m = w.2.is_leaf.within in
       elim (cases_lt (cell_at made cell).cube.level (cell_at made d).cube.level) [
         | inl deep ↦
-            let h = holds_sharing cell d i l m (omega arith) c w.2.member in
+            let h = holds_sharing made can cell d i l m (omega arith) c w.2.member in
             let r = (run_outside made cell d l m h).0 in
             elim (cases_eq cell d) [
               | inl e ↦ let e' = ap (λ k. (cell_at made k).cube.level) e in absurd (omega arith)
               | inr ne ↦ child_above cell i d d (omega arith) (omega arith) m h w.2.member
             ]
         | inr high ↦
-            let same = leaf_alone made d cell m l w.2.is_leaf.stands (holds_sharing d cell i m l high w.2.member c) in
+            let same = leaf_alone made d cell m l w.2.is_leaf.stands (holds_sharing made can d cell i m l high w.2.member c) in
             absurd (true≢false (sym w.2.is_leaf.stands ∙ ap (λ k. is_leaf made (cell_at made k)) same ∙ f))
       ]
 
@@ -194,6 +150,6 @@ module _ (made : Made) (can : CanBeMade made) where
         | inr w ↦
             total-none of_child test 0 (length (cells_of made)) (λ k low n t.
             let m : k < length (cells_of made) = omega arith in
-            share_other (cell_at made k).members i (λ c. w.0 (outer_member cell k i l m (IsParent-from_test cell k l m t).contains c)))
+            share_other (cell_at made k).members i (λ c. w.0 (outer_member made can cell k i l m (IsParent-from_test cell k l m t).contains c)))
             ∙ sym w.1
       ]

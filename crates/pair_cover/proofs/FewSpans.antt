@@ -6,16 +6,18 @@ use Rattle.std.proofs.lemmas.List.Sums.{sum_by-cons, sum_by-append}
 use Rattle.std.proofs.lemmas.Nat.{mul-le}
 use Rattle.cell_tree.specs.declared.tree.Span.{Span}
 use Rattle.cell_tree.specs.Laws.{CanBeMade}
+use Rattle.cell_tree.specs.Spans.{count_of}
 use Rattle.cell_tree.specs.Tree.{Made, Cell, cells_of}
 use Rattle.cell_tree.proofs.Members.{root, sound_at, length-numbers_from}
 use Rattle.cell_tree.proofs.Shape.{cells_under-first}
 use Rattle.pair_cover.specs.declared.spans.Limits.{Limits}
-use Rattle.pair_cover.specs.Looks.{pair_spans, self_spans, spans_of, children_of, count_of, twos, most_looks}
+use Rattle.pair_cover.specs.Looks.{pair_spans, self_spans, spans_of, children_of, twos, most_looks}
 use Rattle.pair_cover.proofs.ChildLists.{children_count}
 use Rattle.pair_cover.proofs.Families.{IsParent-from_children}
 use Rattle.pair_cover.proofs.LookCases.{pairs_none, selves_none}
 use Rattle.pair_cover.proofs.LookSteps.{first_cell, pair_cases, self_cases}
-use Rattle.pair_cover.proofs.Rising.{Contains-head, Contains-later, sum_by-le_each, sum_by-mul}
+use Rattle.sph_num.proofs.Members.{Contains-head, Contains-later}
+use Rattle.cell_tree.proofs.Rising.{sum_by-le_each, sum_by-mul}
 
 -- the sum over what a list was mapped to
 sum_by-map : {X Y : Type 0} (f : Y → ℕ) (g : X → Y) (xs : List X) → sum_by f (map g xs) ≡ sum_by (λ x. f (g x)) xs

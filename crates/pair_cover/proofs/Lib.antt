@@ -1,13 +1,11 @@
 pub mod ChildLists
 pub mod Covering
 pub mod Distances
-pub mod DueLeaves
 pub mod Families
 pub mod FewSpans
 pub mod GapOfCubes
 pub mod LookCases
 pub mod LookSteps
-pub mod Rising
 pub mod Shares
 pub mod SpanCells
 pub mod Totals

@@ -5,13 +5,14 @@ use Rattle.std.proofs.lemmas.Bool.{cases_Bool}
 use Rattle.std.proofs.lemmas.List.{append-nil, take_more, take_all, drop_more, drop_all, flat_map_more}
 use Rattle.std.proofs.lemmas.List.Concat.{flat_map-append}
 use Rattle.cell_tree.specs.declared.tree.Span.{Span}
+use Rattle.cell_tree.specs.Due.{has_due, AreDueBefore}
 use Rattle.cell_tree.specs.Laws.{CanBeMade}
 use Rattle.cell_tree.specs.Tree.{Made, cells_of, cell_at}
 use Rattle.cell_tree.proofs.Members.{root, sound_at}
 use Rattle.cell_tree.proofs.Shape.{cells_under-first}
 use Rattle.pair_cover.specs.declared.spans.Limits.{Limits}
-use Rattle.pair_cover.specs.Looks.{has_due, reach_of_two, gap2_of, drops, stops, splits_first, span_of, children_of, pair_spans, self_spans, twos, most_looks}
-use Rattle.pair_cover.specs.Steps.{AreDueBefore, Adds, level_at}
+use Rattle.pair_cover.specs.Looks.{reach_of_two, gap2_of, drops, stops, splits_first, span_of, children_of, pair_spans, self_spans, twos, most_looks}
+use Rattle.pair_cover.specs.Steps.{Adds, level_at}
 use Rattle.pair_cover.proofs.LookCases.{ends, pairs_none, pairs_dropped, pairs_stopped, pairs_first, pairs_second, selves_none, selves_dropped, selves_stopped, selves_split}
 
 module _ (made : Made) (due : List Bool) (limits : Limits) where

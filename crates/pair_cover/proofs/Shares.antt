@@ -3,7 +3,7 @@ use Rattle.std.proofs.Common.{◌≡◌, ℕ, ◌+◌, ◌*◌, ◌<◌, cond, e
 use Rattle.std.specs.List.{Contains, list_any}
 use Rattle.std.proofs.lemmas.Bool.{cases_Bool, cases_eq, eqb-true, eq-eqb, true≢false}
 use Rattle.std.proofs.lemmas.List.Folds.{Any-from_list_any, list_any_at}
-use Rattle.pair_cover.specs.Cover.{Group, MeetIn, Meets, MeetsItself}
+use Rattle.sph_num.specs.Cover.{Group, MeetIn, Meets, MeetsItself}
 
 -- 1 for a member, 0 for any other point
 pub share : List ℕ → ℕ → ℕ

@@ -2,21 +2,21 @@
 use Rattle.std.proofs.Common.{ℕ, zero, suc, ◌<◌, ◌≤◌, Bool, List, [], ◌∷◌, map, length, Some, None, sym, ◌∙◌, inl, inr, arith}
 use Rattle.std.specs.List.{All, Contains, flat_map}
 use Rattle.std.proofs.lemmas.Bool.{cases_lt}
-use Rattle.std.proofs.lemmas.List.Elements.{All-nil, All-cons, All-append, All-map, All-contains}
+use Rattle.std.proofs.lemmas.List.Elements.{All-nil, All-cons, All-append, All-map}
+use Rattle.sph_num.proofs.Members.{Contains-head, Contains-later, All-from_Contains, All-flat_map}
 use Rattle.cell_tree.specs.Laws.{CanBeMade}
+use Rattle.cell_tree.specs.Spans.{IsSpan}
 use Rattle.cell_tree.specs.Tree.{Made, cells_of, cell_at}
 use Rattle.cell_tree.proofs.Cubes.{CubeContains-trans, CubeContains-turned}
 use Rattle.cell_tree.proofs.Family.{run_inside, run_outside}
 use Rattle.cell_tree.proofs.Shape.{Holds}
 use Rattle.pair_cover.specs.declared.spans.Limits.{Limits}
-use Rattle.pair_cover.specs.Covering.{IsSpan}
 use Rattle.pair_cover.specs.Looks.{span_of, pair_spans, self_spans, spans_of, children_of, twos, most_looks}
 use Rattle.pair_cover.proofs.ChildLists.{children_rise}
 use Rattle.pair_cover.proofs.Families.{IsParent-from_children}
-use Rattle.pair_cover.proofs.GapOfCubes.{All-flat_map}
 use Rattle.pair_cover.proofs.LookCases.{pairs_none, selves_none}
 use Rattle.pair_cover.proofs.LookSteps.{first_cell, pair_cases, self_cases}
-use Rattle.pair_cover.proofs.Rising.{Rises, Rises-tail, head_below, Contains-head, Contains-later, All-from_Contains}
+use Rattle.cell_tree.proofs.Rising.{Rises, Rises-tail, head_below}
 
 -- what holds of each two of a rising list holds of all its twos
 pub All-twos : (P : ℕ × ℕ → Type 0) (xs : List ℕ) → Rises xs → ((x y : ℕ) → Contains xs x → Contains xs y → x < y → P (x, y)) → All P (twos xs)
@@ -82,15 +82,16 @@ module _ (made : Made) (can : CanBeMade made) where
     pair_cells (suc looks) a b p =
         pair_cases made due limits (All (IsSpan made)) looks a b (All-nil (IsSpan made))
         (All-cons (IsSpan made) (span_of a (Some b)) [] (record { first = p.first; second = (p.second, p.not_inside, p.not_outside) }) (All-nil (IsSpan made)))
-        (All-flat_map (IsSpan made) (λ child. pair_spans made due limits looks child b) (children_of made a) (λ c m. pair_cells looks c b (child_apart_first a b c p m)))
-        (All-flat_map (IsSpan made) (λ child. pair_spans made due limits looks a child) (children_of made b) (λ c m. pair_cells looks a c (child_apart_second a b c p m)))
+        (All-flat_map (IsSpan made) (λ child. pair_spans made due limits looks child b) (children_of made a)
+        (All-from_Contains (λ child. All (IsSpan made) (pair_spans made due limits looks child b)) (children_of made a) (λ c m. pair_cells looks c b (child_apart_first a b c p m))))
+        (All-flat_map (IsSpan made) (λ child. pair_spans made due limits looks a child) (children_of made b)
+        (All-from_Contains (λ child. All (IsSpan made) (pair_spans made due limits looks a child)) (children_of made b) (λ c m. pair_cells looks a c (child_apart_second a b c p m))))
 
     -- looks at each two children of a cell
-    twos_cells : (cell : ℕ) → cell < length (cells_of made) → (two : ℕ × ℕ) → Contains (twos (children_of made cell)) two → All (IsSpan made) (pair_spans made due limits most_looks two.0 two.1)
-    twos_cells cell l two m =
-        All-contains (λ (t : ℕ × ℕ). All (IsSpan made) (pair_spans made due limits most_looks t.0 t.1)) (twos (children_of made cell)) two
-        (All-twos (λ t. All (IsSpan made) (pair_spans made due limits most_looks t.0 t.1)) (children_of made cell) (children_rise made cell)
-        (λ c d n o low. pair_cells most_looks c d (children_apart cell c d l n o low))) m
+    twos_cells : (cell : ℕ) → cell < length (cells_of made) → All (λ (two : ℕ × ℕ). All (IsSpan made) (pair_spans made due limits most_looks two.0 two.1)) (twos (children_of made cell))
+    twos_cells cell l =
+        All-twos (λ two. All (IsSpan made) (pair_spans made due limits most_looks two.0 two.1)) (children_of made cell) (children_rise made cell)
+        (λ c d n o low. pair_cells most_looks c d (children_apart cell c d l n o low))
 
     -- a look at one cell
     self_cells : (looks cell : ℕ) → cell < length (cells_of made) → All (IsSpan made) (self_spans made due limits looks cell)
@@ -99,7 +100,8 @@ module _ (made : Made) (can : CanBeMade made) where
         self_cases made due limits (All (IsSpan made)) looks cell (All-nil (IsSpan made))
         (All-cons (IsSpan made) (span_of cell None) [] (record { first = l; second = tt }) (All-nil (IsSpan made)))
         (All-append (IsSpan made) (flat_map (self_spans made due limits looks) (children_of made cell)) (flat_map (λ two. pair_spans made due limits most_looks two.0 two.1) (twos (children_of made cell)))
-        (All-flat_map (IsSpan made) (self_spans made due limits looks) (children_of made cell) (λ c m. self_cells looks c ((IsParent-from_children made can cell c l m).within)))
+        (All-flat_map (IsSpan made) (self_spans made due limits looks) (children_of made cell)
+        (All-from_Contains (λ child. All (IsSpan made) (self_spans made due limits looks child)) (children_of made cell) (λ c m. self_cells looks c ((IsParent-from_children made can cell c l m).within))))
         (All-flat_map (IsSpan made) (λ two. pair_spans made due limits most_looks two.0 two.1) (twos (children_of made cell)) (twos_cells cell l)))
 
     -- the spans of a tree

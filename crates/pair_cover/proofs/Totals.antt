@@ -2,7 +2,7 @@
 use Rattle.std.proofs.Common.{◌≡◌, ℕ, zero, suc, ◌+◌, ◌*◌, ◌<◌, ◌≤◌, Bool, true, List, [], ◌∷◌, ◌++◌, map, filter, flat_map, slice_get, Some, refl, sym, ap, ◌∙◌, inl, inr, arith}
 use Rattle.std.specs.List.{Contains}
 use Rattle.std.proofs.lemmas.Bool.{cases_Bool, cases_eq}
-use Rattle.pair_cover.specs.Cover.{Group, JustOne}
+use Rattle.sph_num.specs.Cover.{Group, JustOne}
 use Rattle.cell_tree.specs.Tree.{numbers_from}
 use Rattle.pair_cover.specs.Looks.{twos}
 

@@ -1,12 +1,11 @@
 -- What the spans of a tree meet, also after its points have moved a little.
-use Rattle.std.specs.Prelude.{◌≡◌, ℕ, ◌<◌, Bool, true, false, List, [], map, length, get_or, slice_index, slice_index_or, Option, Some, None, ⊤}
-use Rattle.pair_cover.specs.Cover.{Covers, Group}
+use Rattle.std.specs.Prelude.{◌≡◌, ℕ, ◌<◌, Bool, true, false, List, [], map, length, get_or, slice_index, slice_index_or, Option, Some, None}
+use Rattle.sph_num.specs.Cover.{Covers, Group}
 use Rattle.sph_num.specs.Force.{InReach}
 use Rattle.sph_num.specs.Space.{dist2}
-use Rattle.cell_geom.specs.Cube.{CubeContains}
 use Rattle.cell_geom.specs.Gap.{IsMoved}
 use Rattle.cell_tree.specs.declared.tree.Span.{Span}
-use Rattle.cell_tree.specs.Tree.{Made, cell_at, cells_of}
+use Rattle.cell_tree.specs.Tree.{Made, cell_at}
 
 -- the members of a span's cells
 abbrev pub second_members : Made → Option ℕ → Option (List ℕ)
@@ -15,18 +14,6 @@ second_members made (Some cell) = Some (cell_at made cell).members
 
 abbrev pub group_of : Made → Span → Group
 group_of made span = record { first = (cell_at made span.first).members; second = second_members made span.second }
-
--- the span's cells are cells of the tree, and of two neither contains the other
-abbrev pub IsOtherCell : Made → ℕ → Option ℕ → Type 0
-IsOtherCell made first None = ⊤
-IsOtherCell made first (Some second) =
-    (second < length (cells_of made))
-    × (CubeContains (cell_at made first).cube (cell_at made second).cube → ⊥)
-    × (CubeContains (cell_at made second).cube (cell_at made first).cube → ⊥)
-
-pub record IsSpan (made : Made) (span : Span) : Type 0 where
-  pub first : span.first < length (cells_of made)
-  pub second : IsOtherCell made span.first span.second
 
 -- places for the points, none of which moved by more than the slack on an axis
 pub record AreMoved (made : Made) (slack : ℕ) (places : List (List ℕ)) : Type 0 where

@@ -1,4 +1,3 @@
-pub mod Cover
 pub mod Covering
 pub mod Looks
 pub mod Steps

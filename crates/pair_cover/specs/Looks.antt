@@ -1,12 +1,13 @@
 -- The spans of a tree: found by looks at one cell and at two, from the whole box down.
-use Rattle.std.specs.Prelude.{ℕ, zero, suc, ◌+◌, ◌*◌, ◌/◌, Bool, true, false, not, ◌&&◌, ◌||◌, ◌==◌, nat_le, nat_lt, if◌then◌else◌, List, [], ◌∷◌, ◌++◌, map, filter, flat_map, length, slice_index, get_or, max, Option, Some, None}
-use Rattle.std.specs.List.{list_any}
+use Rattle.std.specs.Prelude.{ℕ, zero, suc, ◌+◌, ◌*◌, ◌/◌, Bool, true, false, not, ◌&&◌, ◌||◌, ◌==◌, nat_le, nat_lt, if◌then◌else◌, List, [], ◌∷◌, ◌++◌, map, filter, flat_map, length, slice_index, max, Option, Some, None}
 use Rattle.sph_num.specs.Bound.{least_of}
 use Rattle.cell_geom.specs.declared.cube.Cube.{Cube}
 use Rattle.cell_geom.specs.Cube.{side_of}
 use Rattle.cell_geom.specs.Gap.{apart, slackened}
 use Rattle.cell_tree.specs.declared.tree.Span.{Span}
-use Rattle.cell_tree.specs.Tree.{Made, cell_at, cells_of, is_leaf, numbers_from, reach_of}
+use Rattle.cell_tree.specs.Due.{has_due}
+use Rattle.cell_tree.specs.Spans.{count_of, is_leaf_cell}
+use Rattle.cell_tree.specs.Tree.{Made, cell_at, cells_of, numbers_from, reach_of}
 use Rattle.pair_cover.specs.declared.spans.Limits.{Limits}
 
 -- the one cube is a half of the other's side and lies in it
@@ -33,16 +34,6 @@ axis_gap_of a b axis = least_of (flat_map (λ x. map (λ y. apart x y) (coordina
 abbrev pub gap2_of : Cube → Cube → ℕ → ℕ
 gap2_of a b slack =
     slackened (axis_gap_of a b 0) slack + slackened (axis_gap_of a b 1) slack + slackened (axis_gap_of a b 2) slack
-
--- some member of the cell is due
-abbrev pub has_due : Made → List Bool → ℕ → Bool
-has_due made due cell = list_any (λ i. get_or due i false) (cell_at made cell).members
-
-abbrev pub count_of : Made → ℕ → ℕ
-count_of made cell = length (cell_at made cell).members
-
-abbrev pub is_leaf_cell : Made → ℕ → Bool
-is_leaf_cell made cell = is_leaf made (cell_at made cell)
 
 -- the greater reach of two cells
 abbrev pub reach_of_two : Made → ℕ → ℕ → ℕ

@@ -1,7 +1,6 @@
 //! The cover: which cells, alone and in pairs, have tasks, so that each pair of particles in reach meets once.
 #![tactic(auto)]
 
-mod due;
 mod spans;
 
 pub use spans::{Limits, cover};

@@ -1,15 +1,16 @@
 //! The spans of a tree, found by looks at one cell and at two, from the whole box down.
 ghost use Rattle.std.specs.Prelude.{◌≡◌, ℕ, ◌*◌, ◌+◌, ◌-◌, ◌/◌, ◌<◌, ◌≤◌, ◌∷◌, ◌||◌, Bool, List, nat_le, length, map, flat_map, All, IfOk, OnOk, vec_len};
 ghost use Rattle.cell_tree.specs.declared.tree.Span.{Span};
+ghost use Rattle.cell_tree.specs.Due.{AreDueBefore};
 ghost use Rattle.cell_tree.specs.Laws.{CanBeMade};
+ghost use Rattle.cell_tree.specs.Spans.{IsSpan, is_leaf_cell, count_of};
 ghost use Rattle.cell_tree.specs.Tree.{cells_of, leaf_count};
-ghost use Rattle.pair_cover.specs.Covering.{CoversMoved, IsSpan};
-ghost use Rattle.pair_cover.specs.Looks.{spans_of, is_leaf_cell, drops, stops, splits_first, count_of, pair_spans, self_spans, children_of, twos, most_looks};
-ghost use Rattle.pair_cover.specs.Steps.{AreDueBefore, Adds, level_at};
+ghost use Rattle.pair_cover.specs.Covering.{CoversMoved};
+ghost use Rattle.pair_cover.specs.Looks.{spans_of, drops, stops, splits_first, pair_spans, self_spans, children_of, twos, most_looks};
+ghost use Rattle.pair_cover.specs.Steps.{Adds, level_at};
 
-use crate::due::{due_leaves, has_due};
 use cell_geom::gap2;
-use cell_tree::{Span, Tree};
+use cell_tree::{Span, Tree, due_leaves, has_due};
 use std::alloc::{AllocError, Global};
 
 /// When a look goes no deeper.

@@ -1,5 +1,5 @@
 -- How large the densities, ghosts and forces of a step get, from a list in bounds.
-use Rattle.std.proofs.Common.{ℕ, ◌^◌, ◌<◌, ◌≤◌, List, length, get_or, All, Contains, unsigned_abs, arith}
+use Rattle.std.proofs.Common.{ℕ, ◌^◌, ◌<◌, ◌≤◌, List, length, get_or, Contains, unsigned_abs, arith}
 use Rattle.std.proofs.lemmas.Bool.{cond_both}
 use Rattle.std.proofs.lemmas.List.Elements.{All-weaker, All-contains, Contains-get_or}
 use Rattle.sph_num.specs.declared.particle.Bounds.{Bounds}

@@ -10,13 +10,13 @@ use Rattle.std.proofs.Math.Nat.{mod_self, zero-mod}
 use Rattle.sph_num.specs.declared.particle.Bounds.{Bounds}
 use Rattle.sph_num.specs.declared.particle.Params.{Params}
 use Rattle.sph_num.specs.declared.particle.Particle.{Particle}
-use Rattle.sph_num.specs.Bound.{greatest_ghost, greatest_force}
+use Rattle.sph_num.specs.Bound.{greatest_size, greatest_ghost, greatest_force}
 use Rattle.sph_num.specs.Motion.{IsMomentum, pushed}
 use Rattle.sph_num.specs.Totals.{component}
 use Rattle.sph_num.proofs.Drifts.{IsPlace-position_of}
 use Rattle.sph_bins.specs.Bins.{IsDue, is_due, bin_of, IsStepTick}
 use Rattle.sph_bins.specs.InBounds.{IsWithin, HasRoom, IsInStep, IsAt, InBounds}
-use Rattle.sph_bins.specs.Kick.{ghost_at, force_at, greatest_size, momentum_at, kicked, next_list}
+use Rattle.sph_bins.specs.Kick.{ghost_at, force_at, momentum_at, kicked, next_list}
 use Rattle.sph_bins.specs.Laws.{StepsKeepBounds}
 use Rattle.sph_bins.proofs.BinOf.{IsDue-from_true, true_from_IsDue, bin_of-low, bin_of-high, bin_of-due}
 use Rattle.sph_bins.proofs.Room.{pow-le, multiples_apart, multiple_add, multiple_of_less, unsigned_abs-push, room_left}

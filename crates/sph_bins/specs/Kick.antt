@@ -1,8 +1,8 @@
 -- One step of the leapfrog: the due particles are given their new densities, ghosts, forces and kicks. All sums are over the list before it.
-use Rattle.std.specs.Prelude.{ℕ, ◌^◌, ℤ, List, map, unsigned_abs, if◌then◌else◌, ◌==◌}
+use Rattle.std.specs.Prelude.{ℕ, ◌^◌, ℤ, List, map, if◌then◌else◌, ◌==◌}
 use Rattle.sph_num.specs.declared.particle.Params.{Params}
 use Rattle.sph_num.specs.declared.particle.Particle.{Particle}
-use Rattle.sph_num.specs.Bound.{greatest_of}
+use Rattle.sph_num.specs.Bound.{greatest_size}
 use Rattle.sph_num.specs.Density.{density_of}
 use Rattle.sph_num.specs.Force.{ghost_value, force_of}
 use Rattle.sph_num.specs.Motion.{position_of, pushed}
@@ -23,10 +23,6 @@ ghost_at params t list i = if is_due t i.bin then ghost_value params.sound (dens
 -- the force on it
 abbrev pub force_at : Params → ℕ → List Particle → Particle → List ℤ
 force_at params t list i = force_of (place_at params t) (ghost_at params t list) list i
-
--- the greatest absolute value of a vector's components
-abbrev pub greatest_size : List ℤ → ℕ
-greatest_size f = greatest_of (map unsigned_abs f)
 
 -- the momentum at the tick, at the end of the step before it; tick 0 has none before it
 abbrev pub momentum_at : ℕ → Particle → List ℤ → List ℤ

@@ -29,7 +29,7 @@ key_of-name_of Ticks = refl
 key_of-name_of _ = refl
 
 -- what is found passes the test
-found_passes : {A : Type 0} (p : A → Bool) (xs : List A) (x : A) → find p xs ≡ Some x → p x ≡ true
+pub found_passes : {A : Type 0} (p : A → Bool) (xs : List A) (x : A) → find p xs ≡ Some x → p x ≡ true
 found_passes p [] x h = cc
 found_passes p (y ∷ ys) x h =
     elim (cases_Bool (p y)) [

@@ -1,10 +1,11 @@
 -- The numbers of a row that were read, as its particle or as the parameters.
 use Rattle.std.proofs.Common.{◌≡◌, ℕ, true, false, ℤ, pos, [], ◌∷◌}
 use Rattle.sph_num.specs.declared.particle.Params.{Params}
+use Rattle.sph_num.specs.Totals.{zero_vector}
 use Rattle.toml.specs.Data.{Members}
 use Rattle.sph_deck.specs.declared.key.Key.{Key}
 use Rattle.sph_deck.specs.declared.key.Key.TheVariants.{Ticks, Every, BinMin, BinMax, Sound, Shift, Accuracy, Leaf, Pairs, Slack, Mass, H, X, Y, Z, Px, Py, Pz}
-use Rattle.sph_deck.specs.Document.{integer_at, whole_at, nowhere}
+use Rattle.sph_deck.specs.Document.{integer_at, whole_at}
 use Rattle.sph_deck.specs.Judged.{IsReadAt}
 use Rattle.sph_deck.specs.Row.{AreNumbersRead}
 use Rattle.sph_deck.specs.Rows.{IsParticleRead, AreParamsRead}
@@ -42,7 +43,7 @@ module _ (table : Members) (mass h x y z : ℕ) (px py pz : ℤ) (read : ArePart
   read_of_particle _ own wants = cc
 
   -- so the particle is the row's
-  pub particle_read : IsParticleRead table (record { mass = mass; h = h; x0 = x ∷ y ∷ z ∷ []; t0 = 0; p = px ∷ py ∷ pz ∷ []; q = px ∷ py ∷ pz ∷ []; f = nowhere; rho = 0; g = 0; bin = 0 })
+  pub particle_read : IsParticleRead table (record { mass = mass; h = h; x0 = x ∷ y ∷ z ∷ []; t0 = 0; p = px ∷ py ∷ pz ∷ []; q = px ∷ py ∷ pz ∷ []; f = zero_vector; rho = 0; g = 0; bin = 0 })
   particle_read = record {
     numbers = read_of_particle;
     is =

@@ -2,6 +2,7 @@
 use Rattle.std.specs.Prelude.{◌≡◌, ℕ, zero, suc, ◌∷◌, ℤ, pos, List, [], map, filter_map, Option, Some, unwrap_or, option_and_then, unsigned_abs, IsUtf8, slice_get}
 use Rattle.sph_num.specs.declared.particle.Params.{Params}
 use Rattle.sph_num.specs.declared.particle.Particle.{Particle as OneParticle}
+use Rattle.sph_num.specs.Totals.{zero_vector}
 use Rattle.toml.specs.Data.{Data, array, Items, no_items, item, Members, get_member, as_integer, as_table}
 use Rattle.toml.specs.Parse.{parse_document}
 use Rattle.sph_deck.specs.declared.key.Key.{Key}
@@ -61,9 +62,6 @@ params_of top = record {
 abbrev pub momentum_of : Members → List ℤ
 momentum_of table = integer_at Px table ∷ integer_at Py table ∷ integer_at Pz table ∷ []
 
-abbrev pub nowhere : List ℤ
-nowhere = pos 0 ∷ pos 0 ∷ pos 0 ∷ []
-
 -- a particle at the start of a run, from its table
 abbrev pub particle_of : Members → OneParticle
 particle_of table = record {
@@ -73,7 +71,7 @@ particle_of table = record {
   t0 = 0;
   p = momentum_of table;
   q = momentum_of table;
-  f = nowhere;
+  f = zero_vector;
   rho = 0;
   g = 0;
   bin = 0;

@@ -1,11 +1,10 @@
 //! How large the sums of a deck's run may get, from the least and the greatest of its numbers.
-ghost use Rattle.std.specs.Prelude.{◌≡◌, ◌<◌, ◌≤◌, ◌^◌, ℕ, length, slice_index_or, map, unsigned_abs, All, IfOk, vec_len};
-ghost use Rattle.sph_num.specs.Bound.{bound_of, bounds_of, greatest_of, greatest_momentum, least_density, greatest_ghost, greatest_factor, greatest_force};
-ghost use Rattle.sph_num.specs.Ranges.{AreParamsInRange, IsBody, IsDeckMomentum};
-ghost use Rattle.sph_num.specs.Ranges.{AreBoundsInRange};
+ghost use Rattle.std.specs.Prelude.{◌≡◌, ◌<◌, ◌≤◌, ◌^◌, ℕ, length, slice_index_or, All, IfOk, vec_len};
+ghost use Rattle.sph_num.specs.Bound.{bound_of, bounds_of, greatest_momentum, least_density, greatest_ghost, greatest_factor, greatest_force};
+ghost use Rattle.sph_num.specs.Ranges.{AreBoundsInRange, AreParamsInRange, IsBody, IsDeckMomentum};
 ghost use Rattle.sph_num.specs.declared.particle.Particle.{Particle};
 
-use sph_num::{Bounds, KERNEL_CONSTANT, Params, Particle};
+use sph_num::{Bounds, KERNEL_CONSTANT, Params, Particle, greatest_size};
 
 /// The number of particles, and the least and the greatest of their masses and lengths. The parameters
 /// don't matter so far.
@@ -50,17 +49,7 @@ fn greatest_momentum(particles: &[Particle]) -> u128
 {
     particles.iter().fold(
         0,
-        |greatest, particle| greatest.max(greatest_component(&particle.p)),
-    )
-}
-
-/// The greatest absolute value of one momentum's components.
-fn greatest_component(momentum: &[i128]) -> u128
-    ensures { result ≡ greatest_of (map unsigned_abs momentum.now) }
-{
-    momentum.iter().fold(
-        0,
-        |greatest, component| greatest.max(component.unsigned_abs()),
+        |greatest, particle| greatest.max(greatest_size(&particle.p)),
     )
 }
 

@@ -1,31 +1,47 @@
 -- The least and the greatest of a list, which keep to what bounds its elements; a deck's bounds in range.
-use Rattle.std.proofs.Common.{ℕ, min, max, ◌-◌, ◌^◌, ◌<◌, ◌≤◌, List, [], ◌∷◌, length, map, get_or, arith}
+use Rattle.std.proofs.Common.{ℕ, min, max, ◌^◌, ◌<◌, ◌≤◌, List, [], ◌∷◌, length, map, get_or, arith}
 use Rattle.std.specs.Prelude.{fold, flat_map, unsigned_abs}
 use Rattle.std.specs.List.{All}
 use Rattle.std.proofs.lemmas.List.{length-map}
-use Rattle.std.proofs.lemmas.List.Elements.{All-nil, All-head, All-tail, All-map, All-weaker, All-append}
+use Rattle.std.proofs.lemmas.List.Elements.{All-nil, All-cons, All-head, All-tail, All-map, All-weaker}
 use Rattle.sph_num.specs.declared.particle.Params.{Params}
 use Rattle.sph_num.specs.declared.particle.Particle.{Particle}
 use Rattle.sph_num.specs.Bound.{least_of, greatest_of, bounds_of, greatest_momentum, bound_of}
 use Rattle.sph_num.specs.Ranges.{IsBody, IsDeckMomentum, AreParamsInRange, AreBoundsInRange}
+use Rattle.sph_num.proofs.Members.{All-flat_map}
 use Rattle.sph_num.proofs.Sums.{momentum_limit-lt}
 
 -- the least of a number and a list, and the greatest
-fold_min-ge : (n a : ℕ) (xs : List ℕ) → n ≤ a → All (λ x. n ≤ x) xs → n ≤ fold min a xs
+pub fold_min-ge : (n a : ℕ) (xs : List ℕ) → n ≤ a → All (λ x. n ≤ x) xs → n ≤ fold min a xs
 fold_min-ge n a [] low each = low
 fold_min-ge n a (x ∷ xs) low each = fold_min-ge n (min a x) xs (omega (arith, All-head (λ x. n ≤ x) x xs each)) (All-tail (λ x. n ≤ x) x xs each)
 
-fold_min-le : (a : ℕ) (xs : List ℕ) → fold min a xs ≤ a
+pub fold_min-le : (a : ℕ) (xs : List ℕ) → fold min a xs ≤ a
 fold_min-le a [] = omega arith
 fold_min-le a (x ∷ xs) = omega (arith, fold_min-le (min a x) xs)
 
-fold_max-le : (n a : ℕ) (xs : List ℕ) → a ≤ n → All (λ x. x ≤ n) xs → fold max a xs ≤ n
+pub fold_max-le : (n a : ℕ) (xs : List ℕ) → a ≤ n → All (λ x. x ≤ n) xs → fold max a xs ≤ n
 fold_max-le n a [] high each = high
 fold_max-le n a (x ∷ xs) high each = fold_max-le n (max a x) xs (omega (arith, All-head (λ x. x ≤ n) x xs each)) (All-tail (λ x. x ≤ n) x xs each)
 
-fold_max-ge : (a : ℕ) (xs : List ℕ) → a ≤ fold max a xs
+pub fold_max-ge : (a : ℕ) (xs : List ℕ) → a ≤ fold max a xs
 fold_max-ge a [] = omega arith
 fold_max-ge a (x ∷ xs) = omega (arith, fold_max-ge (max a x) xs)
+
+pub fold_max-lt : (n a : ℕ) (xs : List ℕ) → a < n → All (λ x. x < n) xs → fold max a xs < n
+fold_max-lt n a [] high each = high
+fold_max-lt n a (x ∷ xs) high each = fold_max-lt n (max a x) xs (omega (arith, All-head (λ x. x < n) x xs each)) (All-tail (λ x. x < n) x xs each)
+
+-- the least is no more than each element, and the greatest no less
+pub All-fold_min : (a : ℕ) (xs : List ℕ) → All (λ x. fold min a xs ≤ x) xs
+All-fold_min a [] = All-nil (λ x. fold min a [] ≤ x)
+All-fold_min a (x ∷ xs) =
+    All-cons (λ y. fold min (min a x) xs ≤ y) x xs (omega (arith, fold_min-le (min a x) xs)) (All-fold_min (min a x) xs)
+
+pub All-fold_max : (a : ℕ) (xs : List ℕ) → All (λ x. x ≤ fold max a xs) xs
+All-fold_max a [] = All-nil (λ x. x ≤ fold max a [])
+All-fold_max a (x ∷ xs) =
+    All-cons (λ y. y ≤ fold max (max a x) xs) x xs (omega (arith, fold_max-ge (max a x) xs)) (All-fold_max (max a x) xs)
 
 -- the least of a list is between what bounds each element, and so is the greatest
 pub least_of_within : (n m : ℕ) (xs : List ℕ) → 1 ≤ length xs → All (λ x. n ≤ x) xs → All (λ x. x ≤ m) xs → (n ≤ least_of xs) × (least_of xs ≤ m)
@@ -61,20 +77,13 @@ AreBoundsInRange-bounds_of list some few bodies =
       greatest_h = record { low = h1.0; high = h1.1 };
     }
 
--- what holds of each part of a list holds of all of it
-All-flat_map : {X A : Type 0} (P : A → Type 0) (f : X → List A) (xs : List X) → All (λ x. All P (f x)) xs → All P (flat_map f xs)
-All-flat_map P f [] each = All-nil P
-All-flat_map P f (x ∷ xs) each =
-    All-append P (f x) (flat_map f xs) (All-head (λ x. All P (f x)) x xs each) (All-flat_map P f xs (All-tail (λ x. All P (f x)) x xs each))
-
 -- a deck's momenta
 pub greatest_momentum-lt : (list : List Particle) → All IsDeckMomentum list → greatest_momentum list < 2 ^ 63
 greatest_momentum-lt list momenta =
     let sizes = flat_map (λ (p : Particle). map unsigned_abs p.p) list in
     let each : All (λ x. x < 2 ^ 63) sizes = All-flat_map (λ x. x < 2 ^ 63) (λ (p : Particle). map unsigned_abs p.p) list
     (All-weaker IsDeckMomentum (λ p. All (λ x. x < 2 ^ 63) (map unsigned_abs p.p)) (λ p is. All-map (λ x. x < 2 ^ 63) unsigned_abs p.p is) list momenta) in
-    let most = fold_max-le (2 ^ 63 - 1) 0 sizes (omega arith) (All-weaker (λ x. x < 2 ^ 63) (λ x. x ≤ 2 ^ 63 - 1) (λ x h. omega arith) sizes each) in
-    omega arith
+    fold_max-lt (2 ^ 63) 0 sizes (omega arith) each
 
 -- what the momenta of a deck's run may reach
 pub bound_of-lt : (params : Params) (list : List Particle) → AreParamsInRange params → 1 ≤ length list → length list ≤ 32768 → All IsBody list → All IsDeckMomentum list → bound_of params list < 2 ^ 126

@@ -4,6 +4,7 @@ pub mod Roots
 pub mod Divisions
 pub mod Parts
 pub mod Sums
+pub mod Members
 pub mod Extremes
 pub mod Forces
 pub mod Drifts

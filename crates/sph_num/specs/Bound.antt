@@ -1,5 +1,5 @@
 -- How large the sums of a run can get, from the least and the greatest of a deck's numbers.
-use Rattle.std.specs.Prelude.{ℕ, ◌+◌, ◌*◌, ◌/◌, ◌^◌, min, max, List, map, fold, length, slice_index, flat_map, unsigned_abs}
+use Rattle.std.specs.Prelude.{ℕ, ◌+◌, ◌*◌, ◌/◌, ◌^◌, ℤ, min, max, List, map, fold, length, slice_index, flat_map, unsigned_abs}
 use Rattle.sph_num.specs.declared.particle.Bounds.{Bounds}
 use Rattle.sph_num.specs.declared.particle.Params.{Params}
 use Rattle.sph_num.specs.declared.particle.Particle.{Particle}
@@ -11,6 +11,10 @@ least_of xs = fold min (slice_index xs 0) xs
 
 abbrev pub greatest_of : List ℕ → ℕ
 greatest_of xs = fold max 0 xs
+
+-- the greatest absolute value of a vector's components
+abbrev pub greatest_size : List ℤ → ℕ
+greatest_size vector = greatest_of (map unsigned_abs vector)
 
 -- the number of particles, and the least and the greatest of their masses and lengths
 abbrev pub bounds_of : List Particle → Bounds

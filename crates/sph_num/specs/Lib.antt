@@ -1,4 +1,5 @@
 pub mod Bound
+pub mod Cover
 pub mod Density
 pub mod Force
 pub mod Kernel

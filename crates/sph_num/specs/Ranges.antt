@@ -40,7 +40,7 @@ pub record IsBody (particle : Particle) : Type 0 where
 abbrev pub IsDeckMomentum : Particle → Type 0
 IsDeckMomentum particle = All (λ p. unsigned_abs p < 2 ^ 63) particle.p
 
--- the bounds of a deck's numbers
+-- the bounds of a deck's numbers. That no least is above its greatest isn't part of it: the lists in bounds make it so
 pub record AreBoundsInRange (b : Bounds) : Type 0 where
   pub count_low : 1 ≤ b.count
   pub count_high : b.count ≤ 32768

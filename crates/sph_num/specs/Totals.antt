@@ -10,6 +10,9 @@ total_by f (x ∷ xs) = f x +ℤ total_by f xs
 abbrev pub component : List ℤ → ℕ → ℤ
 component vector axis = slice_index_or vector axis (pos 0)
 
+abbrev pub zero_vector : List ℤ
+zero_vector = pos 0 ∷ pos 0 ∷ pos 0 ∷ []
+
 -- the vector of these components
 abbrev pub vector_of : (ℕ → ℤ) → List ℤ
 vector_of f = f 0 ∷ f 1 ∷ f 2 ∷ []

@@ -29,7 +29,7 @@ pub fn root(r2: u64, h: u32) -> u32
     low as u32
 }
 
-/// The kernel at each of the 1,025 distances, made once for a run.
+/// The kernel at each of the 1,025 distances, made once for a step.
 #[derive(Debug, Drop)]
 pub struct Tables {
     w: Vec<u64>,

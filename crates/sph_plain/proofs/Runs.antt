@@ -1,5 +1,5 @@
 -- The lists of a run: the first is in bounds, and each step keeps them there.
-use Rattle.std.proofs.Common.{◌≡◌, ℕ, zero, suc, min, max, ◌+◌, ◌*◌, ◌/◌, ◌^◌, ◌<◌, ◌≤◌, List, [], ◌∷◌, length, map, get_or, inl, inr, ap, ◌∙◌, subst, refl, arith}
+use Rattle.std.proofs.Common.{◌≡◌, ℕ, zero, suc, max, ◌+◌, ◌*◌, ◌/◌, ◌^◌, ◌<◌, ◌≤◌, List, [], ◌∷◌, length, map, get_or, inl, inr, ap, ◌∙◌, subst, refl, arith}
 use Rattle.std.specs.Prelude.{ℤ, pos, fold, flat_map, unsigned_abs}
 use Rattle.std.specs.List.{All}
 use Rattle.std.proofs.lemmas.Bool.{cases_lt}
@@ -15,7 +15,7 @@ use Rattle.sph_num.specs.declared.particle.Particle.{Particle}
 use Rattle.sph_num.specs.Bound.{least_of, greatest_of, bounds_of, greatest_momentum, greatest_force, momentum_limit}
 use Rattle.sph_num.specs.Ranges.{IsBody}
 use Rattle.sph_num.specs.Totals.{component}
-use Rattle.sph_num.proofs.Extremes.{AreBoundsInRange-bounds_of}
+use Rattle.sph_num.proofs.Extremes.{fold_max-ge, All-fold_min, All-fold_max, AreBoundsInRange-bounds_of}
 use Rattle.sph_deck.specs.declared.deck.Deck.{Deck}
 use Rattle.sph_deck.specs.Accepted.{AreAccepted}
 use Rattle.sph_bins.specs.Bins.{IsStepTick}
@@ -25,25 +25,6 @@ use Rattle.sph_bins.proofs.Narrow.{force_at-le, ghost_at-le}
 use Rattle.sph_bins.proofs.Room.{quotient_of_multiple}
 use Rattle.sph_bins.proofs.Steps.{steps_keep_bounds_from}
 use Rattle.sph_plain.specs.Run.{started, start, before_step, before, after}
-
--- the least of a number and a list is no more than each, and the greatest no less
-fold_min-le : (a : ℕ) (xs : List ℕ) → fold min a xs ≤ a
-fold_min-le a [] = omega arith
-fold_min-le a (x ∷ xs) = omega (arith, fold_min-le (min a x) xs)
-
-fold_max-ge : (a : ℕ) (xs : List ℕ) → a ≤ fold max a xs
-fold_max-ge a [] = omega arith
-fold_max-ge a (x ∷ xs) = omega (arith, fold_max-ge (max a x) xs)
-
-All-fold_min : (a : ℕ) (xs : List ℕ) → All (λ x. fold min a xs ≤ x) xs
-All-fold_min a [] = All-nil (λ x. fold min a [] ≤ x)
-All-fold_min a (x ∷ xs) =
-    All-cons (λ y. fold min (min a x) xs ≤ y) x xs (omega (arith, fold_min-le (min a x) xs)) (All-fold_min (min a x) xs)
-
-All-fold_max : (a : ℕ) (xs : List ℕ) → All (λ x. x ≤ fold max a xs) xs
-All-fold_max a [] = All-nil (λ x. x ≤ fold max a [])
-All-fold_max a (x ∷ xs) =
-    All-cons (λ y. y ≤ fold max (max a x) xs) x xs (omega (arith, fold_max-ge (max a x) xs)) (All-fold_max (max a x) xs)
 
 -- what holds of each value of a function holds of its arguments
 All-unmap : {X Y : Type 0} (P : Y → Type 0) (f : X → Y) (xs : List X) → All P (map f xs) → All (λ x. P (f x)) xs

@@ -1,16 +1,16 @@
 -- Vectors of three signed numbers, as the code computes them.
-use Rattle.std.proofs.Common.{◌≡◌, ℕ, zero, suc, max, ◌^◌, ◌<◌, ◌≤◌, List, [], ◌∷◌, map, get_or, to_z, of_z, FitsSigned, refl, ap, ◌∙◌, arith}
-use Rattle.std.specs.Prelude.{ℤ, pos, ◌+ℤ◌, ◌*ℤ◌, fold, unsigned_abs}
+use Rattle.std.proofs.Common.{◌≡◌, ℕ, zero, suc, ◌^◌, ◌<◌, ◌≤◌, List, [], ◌∷◌, map, get_or, to_z, of_z, FitsSigned, refl, ap, ◌∙◌, arith}
+use Rattle.std.specs.Prelude.{ℤ, pos, ◌+ℤ◌, ◌*ℤ◌, unsigned_abs}
 use Rattle.std.specs.Int.{w128}
-use Rattle.std.specs.List.{All}
 use Rattle.std.proofs.lemmas.Int.{ints, to_z-of_z, fits_signed_from_abs}
-use Rattle.std.proofs.lemmas.List.Elements.{All-head, All-tail, All-map, All-from_get_or}
+use Rattle.std.proofs.lemmas.List.Elements.{All-map, All-from_get_or}
 use Rattle.std.proofs.lemmas.Nat.{mul-le}
-use Rattle.sph_num.specs.Bound.{greatest_of}
+use Rattle.sph_num.specs.Bound.{greatest_size}
 use Rattle.sph_num.specs.Force.{force_factor}
 use Rattle.sph_num.specs.Motion.{IsMomentum, pushed}
 use Rattle.sph_num.specs.Space.{minimal, dist2}
 use Rattle.sph_num.specs.Totals.{component}
+use Rattle.sph_num.proofs.Extremes.{fold_max-lt}
 use Rattle.sph_bins.proofs.Room.{unsigned_abs-push}
 use Rattle.sph_plain.specs.declared.body.Body.{Body}
 use Rattle.sph_plain.specs.Bodies.{pulled}
@@ -58,11 +58,7 @@ pushed-lt p f n small weak short (suc (suc zero)) = push-lt (component p 2) (com
 pushed-lt p f n small weak short (suc (suc (suc axis))) = omega arith
 
 -- the greatest size of a narrow vector
-fold_max-lt : (n a : ℕ) (xs : List ℕ) → a < n → All (λ x. x < n) xs → fold max a xs < n
-fold_max-lt n a [] low each = low
-fold_max-lt n a (x ∷ xs) low each = fold_max-lt n (max a x) xs (omega (arith, All-head (λ x. x < n) x xs each)) (All-tail (λ x. x < n) x xs each)
-
-pub greatest_size-lt : (f : List ℤ) → IsMomentum f → greatest_of (map unsigned_abs f) < 2 ^ 96
+pub greatest_size-lt : (f : List ℤ) → IsMomentum f → greatest_size f < 2 ^ 96
 greatest_size-lt f weak =
     fold_max-lt (2 ^ 96) 0 (map unsigned_abs f) (omega arith)
     (All-map (λ x. x < 2 ^ 96) unsigned_abs f (All-from_get_or (λ z. unsigned_abs z < 2 ^ 96) f (pos 0) (λ axis inside. weak axis)))

@@ -1,13 +1,13 @@
 -- A run of a deck: the list of particles before and after each step.
 use Rattle.std.specs.Prelude.{ℕ, zero, suc, ◌*◌, ◌/◌, ◌^◌, List, map}
 use Rattle.sph_num.specs.declared.particle.Particle.{Particle}
+use Rattle.sph_num.specs.Totals.{zero_vector}
 use Rattle.sph_deck.specs.declared.deck.Deck.{Deck}
-use Rattle.sph_deck.specs.Document.{nowhere}
 use Rattle.sph_bins.specs.Kick.{next_list}
 
 -- a particle before the run: the momentum is the deck's, and no step has left anything
 abbrev pub started : Particle → Particle
-started i = record i { t0 = 0; q = i.p; f = nowhere; rho = 0; g = 0; bin = 0 }
+started i = record i { t0 = 0; q = i.p; f = zero_vector; rho = 0; g = 0; bin = 0 }
 
 abbrev pub start : Deck → List Particle
 start deck = map started deck.particles

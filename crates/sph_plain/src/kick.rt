@@ -1,6 +1,5 @@
 //! The kick of a particle by the force on it.
-ghost use Rattle.std.specs.Prelude.{◌≡◌, ℕ, ◌<◌, ◌≤◌, ◌^◌, map, pos, ◌+ℤ◌, ◌*ℤ◌, unsigned_abs};
-ghost use Rattle.sph_num.specs.Bound.{greatest_of};
+ghost use Rattle.std.specs.Prelude.{◌≡◌, ℕ, ◌<◌, ◌≤◌, ◌^◌, pos, ◌+ℤ◌, ◌*ℤ◌, unsigned_abs};
 ghost use Rattle.sph_num.specs.Motion.{IsMomentum, pushed};
 ghost use Rattle.sph_num.specs.Totals.{component};
 ghost use Rattle.sph_bins.specs.Bins.{IsDue};
@@ -8,7 +7,7 @@ ghost use Rattle.sph_bins.specs.Kick.{kicked_with, momentum_at, place_at};
 
 use crate::body::Body;
 use sph_bins::choose;
-use sph_num::{Params, Particle};
+use sph_num::{Params, Particle, greatest_size};
 
 /// Kicks a particle that is due at tick `t`, in place: the second half of the step that ends there, but
 /// for tick 0, and the first half of the next. Its density is the tick's.
@@ -80,14 +79,4 @@ fn pushed_along(p: i128, f: i128, ticks: u32) -> i128
     ensures small { unsigned_abs result < 2 ^ 111 }
 {
     p + f * i128::from(ticks)
-}
-
-/// The greatest absolute value of a vector's components.
-fn greatest_size(vector: &[i128]) -> u128
-    ensures { result ≡ greatest_of (map unsigned_abs vector.now) }
-{
-    vector.iter().fold(
-        0,
-        |greatest, component| greatest.max(component.unsigned_abs()),
-    )
 }

@@ -1,1 +1,3 @@
 mod CheckLines
+mod DeckTrees
+mod TreeTexts

@@ -1,3 +1,4 @@
 pub use Rattle.sph_deck.specs.Keys
 pub mod DeckLines
 pub mod CheckLine
+pub mod TreeLines

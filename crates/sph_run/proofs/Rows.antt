@@ -1,5 +1,5 @@
 -- The rows of a snapshot whose particles were all kicked at its tick.
-use Rattle.std.proofs.Common.{◌≡◌, ℕ, zero, suc, ◌+◌, ◌^◌, ◌<◌, ◌≤◌, List, [], ◌∷◌, length, get_or, refl, ap, arith}
+use Rattle.std.proofs.Common.{◌≡◌, ℕ, zero, suc, ◌+◌, ◌^◌, ◌<◌, ◌≤◌, List, [], ◌∷◌, length, get_or, arith}
 use Rattle.std.specs.Prelude.{pos, unsigned_abs}
 use Rattle.std.specs.List.{All}
 use Rattle.std.proofs.lemmas.List.Elements.{All-head, All-tail, All-from_get_or}
@@ -9,6 +9,7 @@ use Rattle.sph_num.specs.Ranges.{IsMass, IsLength}
 use Rattle.sph_num.specs.Space.{IsPlace}
 use Rattle.sph_snap.specs.declared.snapshot.SnapRow.{SnapRow}
 use Rattle.sph_snap.specs.Snapshot.{IsRow, IsSnapshot, row_of, rows_from, snapshot_of}
+use Rattle.sph_snap.proofs.Written.{length-rows_from}
 
 -- what a kick at a tick leaves of a particle
 pub record IsKicked (t : ℕ) (p : Particle) : Type 0 where
@@ -44,10 +45,6 @@ IsRow-at t (p ∷ ps) are axes first zero number d same inside =
     IsRow-kicked t first number p (All-head (IsKicked t) p ps are) (All-head HasAxes p ps axes) (omega arith)
 IsRow-at t (p ∷ ps) are axes first (suc k) number d same inside =
     IsRow-at t ps (All-tail (IsKicked t) p ps are) (All-tail HasAxes p ps axes) (suc first) k number d (omega arith) (omega arith)
-
-length-rows_from : (first : ℕ) (ps : List Particle) → length (rows_from first ps) ≡ length ps
-length-rows_from first [] = refl
-length-rows_from first (p ∷ ps) = ap suc (length-rows_from (suc first) ps)
 
 -- the snapshot is in its ranges
 pub IsSnapshot-kicked : (t : ℕ) (ps : List Particle) → t ≤ 65536 → 1 ≤ length ps → length ps ≤ 32768 → All (IsKicked t) ps → All HasAxes ps → IsSnapshot (snapshot_of t ps)

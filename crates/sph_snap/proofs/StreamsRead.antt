@@ -21,15 +21,11 @@ use Rattle.sph_snap.specs.Parts.{AllFit, EndFails, Ends, FailsFirst, snapshot_in
 use Rattle.sph_snap.specs.Reads.{AnswersStream, FailsAt, IsFieldsFault, IsMarkAt, IsStreamFault, least_tick}
 use Rattle.sph_snap.specs.Snapshot.{AreInOrder, IsSnapshot, IsStreamOf, snapshot_mark, spell}
 use Rattle.sph_snap.proofs.Differ.{just_one_fault, none_begins_another, rising_tail, streams_have_no_fault}
-use Rattle.sph_snap.proofs.NoFault.{IsSound-snapshot}
+use Rattle.sph_snap.proofs.NoFault.{length-spell}
 use Rattle.sph_snap.proofs.Pieces.{IsAt, IsAt-fits}
 use Rattle.sph_snap.proofs.ReadBack.{IsSpelledAt, IsSpelledAt-from_fields}
 
 -- ---- one snapshot
-
--- how many bytes a snapshot in range has
-length-spell : (s : Snapshot) → IsSnapshot s → length (spell s) ≡ 16 + 84 * length s.rows
-length-spell s is = (IsSound-snapshot s 0 0 is (omega arith)).size_is
 
 -- the snapshot that was read stands in the bytes, in its ranges
 pub record StandsAt (bytes : List ℕ) (least at : ℕ) (s : Snapshot) : Type 0 where

@@ -1,14 +1,14 @@
 -- The job that the words name.
-use Rattle.std.proofs.Common.{◌≡◌, List, length, get_or, Some, arith, refl, ap, ◌∙◌, sym, inl, inr}
-use Rattle.std.specs.Prelude.{ℕ, [], ◌∷◌, Bool, true, Option, None, MatchOption, find, map, slice_get, String, string_bytes}
+use Rattle.std.proofs.Common.{◌≡◌, List, length, get_or, Some, arith, refl, ap, ◌∙◌, sym}
+use Rattle.std.specs.Prelude.{ℕ, Option, None, MatchOption, find, map, slice_get, String, string_bytes}
 use Rattle.std.specs.Option.{option_map}
 use Rattle.std.specs.Str.{bytes_eq}
 use Rattle.std.specs.declared.alloc.Global.{Global}
-use Rattle.std.proofs.lemmas.Bool.{cases_Bool}
 use Rattle.std.proofs.lemmas.Option.{slice_get-map, slice_get_read}
 use Rattle.std.proofs.lemmas.Slice.Eq.{bytes_eq-Decides}
+use Rattle.sph_deck.proofs.Names.{found_passes}
 use Rattle.sph_top.specs.declared.words.Job.{Job}
-use Rattle.sph_top.specs.declared.words.Job.TheVariants.{Run, Plain, Check}
+use Rattle.sph_top.specs.declared.words.Job.TheVariants.{Run, Plain, Check, Tree}
 use Rattle.sph_top.specs.declared.words.TheConstants.{JOBS}
 use Rattle.sph_top.specs.Words.{NamesJob, NamesAJob, NamesNone, word_of}
 
@@ -36,15 +36,7 @@ unfolding job_with
 job_with-word_of Run = refl
 job_with-word_of Plain = refl
 job_with-word_of Check = refl
-
--- what is found passes the test
-found_passes : {A : Type 0} (p : A → Bool) (xs : List A) (x : A) → find p xs ≡ Some x → p x ≡ true
-found_passes p [] x h = cc
-found_passes p (y ∷ ys) x h =
-    elim (cases_Bool (p y)) [
-      | inl passes ↦ let e = rw passes at h in let same : y ≡ x = cc in rw (← same) passes
-      | inr fails ↦ found_passes p ys x (rw fails at h)
-    ]
+job_with-word_of Tree = refl
 
 -- the job with a word has that word
 word_of-job_with : (word : List ℕ) (job : Job) → job_with word ≡ Some job → word_of job ≡ word

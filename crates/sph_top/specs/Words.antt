@@ -2,13 +2,14 @@
 use Rattle.std.specs.Prelude.{◌≡◌, ℕ, List, map, length, slice_get, Some, codes, String, string_bytes}
 use Rattle.std.specs.declared.alloc.Global.{Global}
 use Rattle.sph_top.specs.declared.words.Job.{Job}
-use Rattle.sph_top.specs.declared.words.Job.TheVariants.{Run, Plain, Check}
+use Rattle.sph_top.specs.declared.words.Job.TheVariants.{Run, Plain, Check, Tree}
 
 -- the job's word
 abbrev pub word_of : Job → List ℕ
 word_of Run = codes "run"
 word_of Plain = codes "plain"
 word_of Check = codes "check"
+word_of Tree = codes "tree"
 
 -- the words are the program's name and the job's word
 pub record NamesJob (words : List (String Global)) (job : Job) : Type 0 where

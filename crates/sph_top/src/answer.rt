@@ -22,7 +22,7 @@ use std::thread::Threads;
 /// All that the program does. It reads the words, then the whole source, does the job on the deck, writes
 /// the output to `out`, and writes the line of a refusal to `err`.
 ///
-/// So far the jobs are `run`, `plain` and `check`, without options. Other words are answered by `NotBuilt`.
+/// So far the jobs are `run`, `plain`, `check` and `tree`, without options. Other words are answered by `NotBuilt`.
 pub fn swiftq<R: Threads + Sync, S: Source, O: Sink, E: Sink, G: Gate>(
     _rt: &R,
     alloc: Global,

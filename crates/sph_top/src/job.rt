@@ -1,13 +1,14 @@
 //! Doing a job on a deck, and what is answered for it.
-ghost use Rattle.std.specs.Prelude.{◌≡◌};
+ghost use Rattle.std.specs.Prelude.{◌≡◌, IfOk};
 ghost use Rattle.sph_top.specs.Answers.{seen, IsWithoutOutput};
+ghost use Rattle.sph_top.specs.Output.{output_of};
 ghost use Rattle.sph_top.specs.Steps.{Follows, Writes};
 
 use crate::status::Status;
 use crate::words::Job;
 use sph_deck::{Deck, DeckRefusal, read_deck};
 use sph_edge::{Failed, Sink, write_whole};
-use sph_report::check_text;
+use sph_report::{check_text, tree_text};
 use sph_run::{Form, RunEnd, run_plain};
 use std::alloc::{AllocError, Global};
 
@@ -29,7 +30,8 @@ fn write_output<O: Sink>(alloc: Global, job: Job, deck: &Deck, out: &mut O) -> S
 {
     match job {
         Job::Run | Job::Plain => run(alloc, deck, out),
-        Job::Check => check(alloc, deck, out),
+        Job::Check => write_text(check_text(alloc, deck), out),
+        Job::Tree => write_text(tree_text(alloc, deck), out),
     }
 }
 
@@ -45,15 +47,16 @@ fn run<O: Sink>(alloc: Global, deck: &Deck, out: &mut O) -> Status
     }
 }
 
-/// Writes the line of an accepted deck.
-fn check<O: Sink>(alloc: Global, deck: &Deck, out: &mut O) -> Status
-    ensures { Writes Job.Check deck.now result (seen O.held O.faults out.old) (seen O.held O.faults out.new) }
+/// Writes a text whole, if there was memory for it. The clause holds for each job that has this output.
+fn write_text<O: Sink>(text: Result<Vec<u8>, AllocError>, out: &mut O) -> Status
+    ensures { (job : Job) (deck : Deck) → IfOk text (λ whole. whole.items ≡ output_of job deck)
+        → Writes job deck result (seen O.held O.faults out.old) (seen O.held O.faults out.new) }
 {
-    let line = match check_text(alloc, deck) {
-        Ok(line) => line,
+    let whole = match text {
+        Ok(whole) => whole,
         Err(AllocError) => return Status::NoMemory,
     };
-    match write_whole(out, &line) {
+    match write_whole(out, &whole) {
         Ok(()) => Status::Done,
         Err(Failed) => Status::WriteFault,
     }

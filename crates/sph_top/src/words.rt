@@ -12,10 +12,12 @@ pub enum Job {
     Plain,
     /// Says that the deck is accepted, and how large its sums may get.
     Check,
+    /// Shows how large its tree and the graph of its tasks are.
+    Tree,
 }
 
 /// All jobs.
-const JOBS: [Job; 3] = [Job::Run, Job::Plain, Job::Check];
+const JOBS: [Job; 4] = [Job::Run, Job::Plain, Job::Check, Job::Tree];
 
 impl Job {
     /// The job's word.
@@ -26,6 +28,7 @@ impl Job {
             Job::Run => "run",
             Job::Plain => "plain",
             Job::Check => "check",
+            Job::Tree => "tree",
         }
     }
 }

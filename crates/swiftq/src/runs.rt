@@ -100,6 +100,7 @@ const TWO_BINS: Worked = Worked {
         bin_max: 3,
         shift: 60,
         accuracy: 1_861_822,
+        ..ONE_SNAPSHOT
     },
     bodies: [
         Body { x: 1_512, ..REST },
@@ -134,6 +135,7 @@ const KEPT_GHOST: Worked = Worked {
         bin_max: 1,
         shift: 22,
         accuracy: 1_200_000,
+        ..ONE_SNAPSHOT
     },
     bodies: [
         Body { x: 1_512, ..REST },
@@ -270,6 +272,36 @@ fn checks_a_pair(rt: HostRuntime) -> Result<(), Fail> {
     let run = do_job(&rt, alloc, "check", text.as_str())?;
     assert_eq!(rt; run.status, Status::Done);
     assert!(rt; run.out.held() == b"accepted: particles 2 bound 13190071320576\n".as_slice());
+    assert!(rt; run.err.held().is_empty());
+    Ok(())
+}
+
+#[test]
+fn shows_the_tree_of_forty_at_one_point(rt: HostRuntime) -> Result<(), Fail> {
+    let alloc = rt.alloc();
+    let text = deck(alloc, ONE_SNAPSHOT, &[LIGHT; 40])?;
+    let run = do_job(&rt, alloc, "tree", text.as_str())?;
+    assert_eq!(rt; run.status, Status::Done);
+    let want: &[u8] = b"particles 40 cells 11 leaves 1 deepest 10 largest 40\n\
+          density 1 ghost 1 force 1 kick 1 edges 3 heaviest 1680\n";
+    assert!(rt; run.out.held() == want);
+    Ok(())
+}
+
+#[test]
+fn shows_the_tree_of_a_pair(rt: HostRuntime) -> Result<(), Fail> {
+    let alloc = rt.alloc();
+    let top = Top {
+        leaf: 1,
+        pairs: 1,
+        ..ONE_SNAPSHOT
+    };
+    let text = deck(alloc, top, &HALF_REACH.bodies)?;
+    let run = do_job(&rt, alloc, "tree", text.as_str())?;
+    assert_eq!(rt; run.status, Status::Done);
+    let want: &[u8] = b"particles 2 cells 12 leaves 2 deepest 10 largest 1\n\
+          density 3 ghost 2 force 3 kick 2 edges 12 heaviest 4\n";
+    assert!(rt; run.out.held() == want);
     assert!(rt; run.err.held().is_empty());
     Ok(())
 }

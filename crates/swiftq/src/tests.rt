@@ -17,6 +17,8 @@ pub(crate) struct Top {
     pub bin_max: u32,
     pub shift: u32,
     pub accuracy: u32,
+    pub leaf: u32,
+    pub pairs: u32,
 }
 
 /// The top of a deck of one snapshot.
@@ -27,6 +29,8 @@ pub(crate) const ONE_SNAPSHOT: Top = Top {
     bin_max: 0,
     shift: 20,
     accuracy: 0,
+    leaf: 16,
+    pairs: 4_096,
 };
 
 /// The stream of one particle of mass 1 and h 131072 at the origin, at rest.
@@ -75,12 +79,14 @@ pub(crate) fn deck(alloc: Global, top: Top, bodies: &[Body]) -> Result<String, A
         bin_max,
         shift,
         accuracy,
+        leaf,
+        pairs,
     } = top;
     let bins = format!(in alloc;
         "ticks = {ticks}\nevery = {every}\nbin_min = {bin_min}\nbin_max = {bin_max}\n"
     )?;
     let mut text = format!(in alloc;
-        "{bins}sound = 65536\nshift = {shift}\naccuracy = {accuracy}\nleaf = 16\npairs = 4096\nslack = 0\n"
+        "{bins}sound = 65536\nshift = {shift}\naccuracy = {accuracy}\nleaf = {leaf}\npairs = {pairs}\nslack = 0\n"
     )?;
     for body in bodies {
         push_body(alloc, &mut text, *body)?;

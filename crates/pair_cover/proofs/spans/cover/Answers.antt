@@ -1,8 +1,10 @@
 use Rattle.std.proofs.Common.{◌≡◌, ◌-◌, ◌++◌, length, ap, ◌∙◌, subst, sym, arith}
 use Rattle.std.specs.List.{All}
-use Rattle.pair_cover.specs.Covering.{CoversMoved, IsSpan}
+use Rattle.cell_tree.specs.Due.{AreDueBefore}
+use Rattle.cell_tree.specs.Spans.{IsSpan}
+use Rattle.pair_cover.specs.Covering.{CoversMoved}
 use Rattle.pair_cover.specs.Looks.{spans_of, self_spans, most_looks}
-use Rattle.pair_cover.specs.Steps.{Adds, AreDueBefore, level_at}
+use Rattle.pair_cover.specs.Steps.{Adds, level_at}
 use Rattle.pair_cover.proofs.Covering.{spans_cover}
 use Rattle.pair_cover.proofs.FewSpans.{spans_few}
 use Rattle.pair_cover.proofs.LookSteps.{first_cell}

@@ -1,9 +1,9 @@
 use Rattle.std.proofs.Common.{◌≡◌, ◌||◌, Bool, true, List, sym, ap, ◌∙◌, rules}
 use Rattle.std.proofs.lemmas.Bool.{or_left, or_right}
 use Rattle.cell_geom.specs.declared.cube.Cube.{Cube}
+use Rattle.cell_tree.specs.Due.{has_due, AreDueBefore}
 use Rattle.cell_tree.specs.Tree.{cell_at}
-use Rattle.pair_cover.specs.Looks.{has_due, reach_of_two, gap2_of}
-use Rattle.pair_cover.specs.Steps.{AreDueBefore}
+use Rattle.pair_cover.specs.Looks.{reach_of_two, gap2_of}
 use Rattle.pair_cover.proofs.GapOfCubes.{gap2_is}
 use Rattle.pair_cover.proofs.LookSteps.{drops_from_gap}
 use Rattle.pair_cover.proofs.spans.drops.Goals as goal

@@ -1,0 +1,5 @@
+use Rattle.task_graph.specs.LeafLists.{AddsWithin}
+use Rattle.task_graph.proofs.leaves.add_below.Given as goal
+
+abbrev pub invariant-loop-leaf : goal.invariant-loop-leaf
+invariant-loop-leaf l = AddsWithin l.fn.below.0 l.leaf l.number l.fn.spans_at l.spans_at

@@ -1,0 +1,21 @@
+-- The lists of the numbers of what is related to one element.
+use Rattle.std.specs.Prelude.{ℕ, ◌+◌, ◌-◌, Bool, List, [], filter, map, length, slice_index, slice_index_or}
+use Rattle.cell_tree.specs.declared.tree.Span.{Span}
+use Rattle.cell_tree.specs.Tree.{Made, numbers_from}
+use Rattle.task_graph.specs.Tasks.{due_cells, is_below_span}
+
+-- the list at a place, with its numbers counted from the first number on
+abbrev pub numbered : List (List ℕ) → ℕ → ℕ → List ℕ
+numbered lists first place = map (λ number. first + number) (slice_index_or lists place [])
+
+-- the numbers of the related elements of a list, counted from the first number on
+abbrev pub joined_to : {A B : Type 0} → (A → B → Bool) → List B → B → ℕ → A → List ℕ
+joined_to relates others none first a = map (λ number. first + number) (filter (λ number. relates a (slice_index_or others number none)) (numbers_from 0 (length others)))
+
+-- the numbers of the leaves with a due member below a span's cells, of all such leaves, counted from the first number on
+abbrev pub dues_below : Made → List Bool → ℕ → Span → List ℕ
+dues_below made due first span = joined_to (is_below_span made) (due_cells made due) 0 first span
+
+-- the numbers from the count at one leaf up to the count at another, counted from the first number on
+abbrev pub counted_between : List ℕ → ℕ → ℕ → ℕ → List ℕ
+counted_between before first from to = numbers_from (first + slice_index before from) (first + slice_index before to - (first + slice_index before from))

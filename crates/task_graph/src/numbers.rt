@@ -1,0 +1,36 @@
+//! Where the numbers of each kind of task begin.
+ghost use Rattle.std.specs.Prelude.{◌≡◌, ◌+◌, ◌<◌, ◌≤◌, ◌^◌};
+
+/// The first number of each kind but the drifts, which begin with 0, and how many tasks there are.
+#[derive(Clone, Copy, Debug, PartialEq, Eq)]
+pub struct Numbers {
+    pub densities: u32,
+    pub ghosts: u32,
+    pub forces: u32,
+    pub kicks: u32,
+    pub end: u32,
+}
+
+impl Numbers {
+    /// The numbers for so many leaves that drift, spans, and leaves with a due member.
+    pub fn of(drifting: usize, spans: usize, dues: usize) -> Numbers
+        requires drifting { drifting ≤ 360448 }
+        requires spans { spans < 2 ^ 30 }
+        requires dues { dues ≤ 360448 }
+        ensures densities { result.densities ≡ drifting }
+        ensures ghosts { result.ghosts ≡ drifting + spans }
+        ensures forces { result.forces ≡ drifting + spans + dues }
+        ensures kicks { result.kicks ≡ drifting + spans + dues + spans }
+        ensures end { result.end ≡ drifting + spans + dues + spans + dues }
+    {
+        let (drifting, spans, dues) = (drifting as u32, spans as u32, dues as u32);
+        let forces = drifting + spans + dues;
+        Numbers {
+            densities: drifting,
+            ghosts: drifting + spans,
+            forces,
+            kicks: forces + spans,
+            end: forces + spans + dues,
+        }
+    }
+}

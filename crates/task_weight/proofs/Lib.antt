@@ -1,0 +1,3 @@
+pub mod GreatestPaths
+pub mod Starts
+pub mod WeightsWithin
