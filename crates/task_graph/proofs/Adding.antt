@@ -5,9 +5,6 @@ use Rattle.task_weight.specs.Edges.{AreStarts, edges_of}
 use Rattle.task_weight.proofs.Starts.{AreStarts-add, edges_of-add, length-edges_of}
 use Rattle.task_graph.specs.Parts.{AddsLists}
 
-pub AddsLists-none : (starts ends : List ℕ) → AreStarts starts ends → AddsLists starts ends starts ends []
-AddsLists-none starts ends are = record { are_starts = are; added = sym (append-nil (edges_of starts ends)) }
-
 -- one more list, whose numbers stand last
 pub AddsLists-one : (starts ends starts' ends' starts'' ends'' numbers : List ℕ) (lists : List (List ℕ)) → AddsLists starts ends starts' ends' lists → length starts' < 2 ^ 32
     → ends'' ≡ ends' ++ numbers → starts'' ≡ starts' ++ length ends'' ∷ [] → AddsLists starts ends starts'' ends'' (lists ++ numbers ∷ [])
@@ -16,12 +13,6 @@ AddsLists-one starts ends starts' ends' starts'' ends'' numbers lists adds few e
       are_starts = AreStarts-add starts' ends' numbers adds.are_starts few;
       added = edges_of-add starts' ends' numbers adds.are_starts ∙ ap (λ ls. ls ++ numbers ∷ []) adds.added ∙ append_assoc (edges_of starts ends) lists (numbers ∷ []);
     })
-
-pub AddsLists-join : (starts ends starts' ends' starts'' ends'' : List ℕ) (lists lists' : List (List ℕ)) → AddsLists starts ends starts' ends' lists → AddsLists starts' ends' starts'' ends'' lists' → AddsLists starts ends starts'' ends'' (lists ++ lists')
-AddsLists-join starts ends starts' ends' starts'' ends'' lists lists' first then = record {
-  are_starts = then.are_starts;
-  added = then.added ∙ ap (λ ls. ls ++ lists') first.added ∙ append_assoc (edges_of starts ends) lists lists';
-}
 
 -- one start more for each list
 pub length-AddsLists : (starts ends starts' ends' : List ℕ) (lists : List (List ℕ)) → AreStarts starts ends → AddsLists starts ends starts' ends' lists → length starts' ≡ length starts + length lists

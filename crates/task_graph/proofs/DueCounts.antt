@@ -55,7 +55,7 @@ module _ (made : Made) (due : List Bool) (before : List ℕ) (are : AreDueBefore
       omega (arith, counts_are i (omega arith), counts_are j m)
 
   -- the last one is that of all
-  counts_last : get_or before (leaf_count made) 0 ≡ length (due_cells made due)
+  pub counts_last : get_or before (leaf_count made) 0 ≡ length (due_cells made due)
   counts_last =
       let cells = leaf_cells made in
       counts_are (leaf_count made) (omega arith)

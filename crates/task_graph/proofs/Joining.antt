@@ -1,18 +1,19 @@
 -- The lists of the numbers of what is related to each of some elements.
-use Rattle.std.proofs.Common.{◌≡◌, ℕ, ◌+◌, ◌<◌, Bool, List, [], ◌∷◌, ◌++◌, map, filter, length, get_or, slice_index, replicate, refl, sym, ap, ◌∙◌, subst, None, arith}
+use Rattle.std.proofs.Common.{◌≡◌, ℕ, ◌+◌, ◌<◌, Bool, List, [], ◌∷◌, ◌++◌, map, filter, length, get_or, slice_index, replicate, sym, ap, ◌∙◌, subst, None, arith}
 use Rattle.std.specs.Prelude.{◌↔◌}
 use Rattle.std.specs.List.{Contains}
 use Rattle.std.specs.List.Sorted.{IsStrictlyIncreasing}
 use Rattle.std.proofs.lemmas.List.{get_or-map, length-map}
 use Rattle.std.proofs.lemmas.List.Elements.{Contains-get_or}
+use Rattle.std.proofs.lemmas.Simd.{map-map}
 use Rattle.std.proofs.lemmas.Option.{get_or_from_slice_get, slice_get-get_or, slice_get_within}
-use Rattle.sph_num.proofs.Members.{Contains-filter, Contains-from_filter, Contains-head, Contains-later, passes_from_filter}
+use Rattle.sph_num.proofs.Members.{Contains-filter, Contains-from_filter, passes_from_filter}
 use Rattle.cell_tree.specs.declared.tree.Span.{Span}
 use Rattle.cell_tree.specs.Spans.{leaf_cells}
-use Rattle.cell_tree.specs.Tree.{Made, leaf_count, numbers_from}
-use Rattle.cell_tree.proofs.Members.{below_from_numbers, Contains-numbers, get_or-numbers_from, length-numbers_from}
-use Rattle.task_graph.specs.Joined.{dues_below, joined_to, numbered}
-use Rattle.task_graph.specs.Parts.{AreEdgeLists, AreJoined, AreLeavesFor, AreLeavesOf, IsJoinedAt, has_above, spans_at}
+use Rattle.cell_tree.specs.Tree.{Made, numbers_from}
+use Rattle.cell_tree.proofs.Members.{below_from_numbers, Contains-numbers}
+use Rattle.task_graph.specs.Joined.{counted_from, dues_below, joined_to}
+use Rattle.task_graph.specs.Parts.{AreEdgeLists, AreJoined, AreLeavesFor, AreLeavesOf, IsJoinedAt, has_above, spans_above}
 use Rattle.task_graph.specs.Tasks.{drifting_leaves, due_cells, is_below_span}
 use Rattle.cell_tree.proofs.Rising.{IsStrictlyIncreasing-from_Rises}
 use Rattle.task_graph.proofs.Ranges.{Rises-filter_numbers, Rises-map_add}
@@ -75,62 +76,42 @@ module _ {A B : Type 0} (relates : A → B → Bool) (others : List B) (none : B
       rising_lists (x ∷ xs) k l =
           subst IsStrictlyIncreasing (sym (get_or-map (joined_to relates others none first) (x ∷ xs) k x [] l)) (joined_rises (get_or (x ∷ xs) k x))
 
-module _ (made : Made) (spans : List Span) (lists : List (List ℕ)) (are : lists ≡ map (spans_at made spans) (numbers_from 0 (leaf_count made))) where
-  abbrev no_span : Span
-  no_span = record { first = 0; second = None }
-
-  pub length-spans_at : length lists ≡ leaf_count made
-  length-spans_at = ap length are ∙ length-map (numbers_from 0 (leaf_count made)) (spans_at made spans) ∙ length-numbers_from 0 (leaf_count made)
-
-  -- the list at a leaf
-  pub spans_at_leaf : (leaf : ℕ) (d : List ℕ) → leaf < leaf_count made → get_or lists leaf d ≡ spans_at made spans leaf
-  spans_at_leaf leaf d l =
-      let all = numbers_from 0 (leaf_count made) in
-      ap (λ ls. get_or ls leaf d) are
-      ∙ get_or-map (spans_at made spans) all leaf 0 d (let e = length-numbers_from 0 (leaf_count made) in omega arith)
-      ∙ ap (spans_at made spans) (get_or-numbers_from 0 (leaf_count made) leaf 0 l ∙ omega arith)
-
-  -- the lists at some leaves, counted from a number on, join their cells to the spans
-  lists_are : (first : ℕ) (numbers : List ℕ) → ((number : ℕ) → Contains numbers number → number < leaf_count made)
-      → map (numbered lists first) numbers ≡ map (joined_to (has_above made) spans no_span first) (map (slice_index (leaf_cells made)) numbers)
-  lists_are first [] below = refl
-  lists_are first (leaf ∷ numbers) below =
-      let here : numbered lists first leaf ≡ joined_to (has_above made) spans no_span first (slice_index (leaf_cells made) leaf) =
-      ap (map (λ number. first + number)) (spans_at_leaf leaf [] (below leaf (Contains-head leaf numbers))) in
-      let rest = lists_are first numbers (λ number c. below number (Contains-later leaf numbers number c)) in
-      ap (λ ns. ns ∷ map (numbered lists first) numbers) here
-      ∙ ap (λ ls. joined_to (has_above made) spans no_span first (slice_index (leaf_cells made) leaf) ∷ ls) rest
-
-  leaves_are_joined : (first : ℕ) (cells numbers : List ℕ) → AreLeavesOf made cells numbers → AreJoined (has_above made) cells spans first (map (numbered lists first) numbers)
-  leaves_are_joined first cells numbers of =
-      let is = lists_are first numbers of.below ∙ ap (map (joined_to (has_above made) spans no_span first)) of.cells_are in
-      subst (AreJoined (has_above made) cells spans first) (sym is) (AreJoined-map (has_above made) spans no_span first cells)
+-- the lists of spans at some leaves, counted from a number on, join the leaves to the spans
+leaves_are_joined : (made : Made) (spans : List Span) (first : ℕ) (cells : List ℕ) (lists : List (List ℕ)) → lists ≡ map (spans_above made spans) cells → AreJoined (has_above made) cells spans first (map (counted_from first) lists)
+leaves_are_joined made spans first cells lists are =
+    let no_span : Span = record { first = 0; second = None } in
+    let is : map (counted_from first) lists ≡ map (joined_to (has_above made) spans no_span first) cells = ap (map (counted_from first)) are ∙ map-map (counted_from first) (spans_above made spans) cells in
+    subst (AreJoined (has_above made) cells spans first) (sym is) (AreJoined-map (has_above made) spans no_span first cells)
 
 pub length-leaves_of : (made : Made) (cells numbers : List ℕ) → AreLeavesOf made cells numbers → length numbers ≡ length cells
 length-leaves_of made cells numbers of = sym (length-map numbers (slice_index (leaf_cells made))) ∙ ap length of.cells_are
 
+-- one list for each leaf
+pub one_list_each : (made : Made) (spans : List Span) (cells numbers : List ℕ) (lists : List (List ℕ)) → AreLeavesOf made cells numbers → lists ≡ map (spans_above made spans) cells → length lists ≡ length numbers
+one_list_each made spans cells numbers lists of are = ap length are ∙ length-map cells (spans_above made spans) ∙ sym (length-leaves_of made cells numbers of)
+
 -- the lists of a graph
-pub are_edge_lists : (made : Made) (spans : List Span) (due : List Bool) (drift : Bool) (lists : List (List ℕ)) (drifting dues before : List ℕ) (densities ghosts forces kicks last : ℕ)
-    → AreLeavesFor made spans due drift lists drifting dues before
+pub are_edge_lists : (made : Made) (spans : List Span) (due : List Bool) (drift : Bool) (drifting : List ℕ) (at_drifting : List (List ℕ)) (dues : List ℕ) (at_dues : List (List ℕ)) (before : List ℕ) (densities ghosts forces kicks last : ℕ)
+    → AreLeavesFor made spans due drift drifting at_drifting dues at_dues before
     → densities ≡ length drifting → ghosts ≡ length drifting + length spans → forces ≡ length drifting + length spans + length dues → kicks ≡ length drifting + length spans + length dues + length spans → last ≡ length dues
     → AreEdgeLists made spans due drift
-    (map (numbered lists densities) drifting ++ map (dues_below made due ghosts) spans ++ map (numbered lists forces) dues ++ map (dues_below made due kicks) spans ++ replicate last [])
-are_edge_lists made spans due drift lists drifting dues before densities ghosts forces kicks last are d g f k e =
-    let drifts = map (numbered lists densities) drifting in
-    let long : length drifts ≡ length drifting = length-map drifting (numbered lists densities) in
+    (map (counted_from densities) at_drifting ++ map (dues_below made due ghosts) spans ++ map (counted_from forces) at_dues ++ map (dues_below made due kicks) spans ++ replicate last [])
+are_edge_lists made spans due drift drifting at_drifting dues at_dues before densities ghosts forces kicks last are d g f k e =
+    let drifts = map (counted_from densities) at_drifting in
+    let long : length drifts ≡ length drifting = length-map at_drifting (counted_from densities) ∙ one_list_each made spans _ _ _ are.drifting_are are.at_drifting_are in
     let count = length-leaves_of made (due_cells made due) dues are.dues_are in
     record {
       drifts = drifts;
       densities = map (dues_below made due ghosts) spans;
-      ghosts = map (numbered lists forces) dues;
+      ghosts = map (counted_from forces) at_dues;
       forces = map (dues_below made due kicks) spans;
-      all = ap (λ n. drifts ++ map (dues_below made due ghosts) spans ++ map (numbered lists forces) dues ++ map (dues_below made due kicks) spans ++ replicate n []) (e ∙ count);
+      all = ap (λ n. drifts ++ map (dues_below made due ghosts) spans ++ map (counted_from forces) at_dues ++ map (dues_below made due kicks) spans ++ replicate n []) (e ∙ count);
       drifts_are = subst (λ n. AreJoined (has_above made) (drifting_leaves made spans drift) spans n drifts) (d ∙ sym long)
-          (leaves_are_joined made spans lists are.spans_are densities (drifting_leaves made spans drift) drifting are.drifting_are);
+          (leaves_are_joined made spans densities (drifting_leaves made spans drift) at_drifting are.at_drifting_are);
       densities_are = subst (λ n. AreJoined (is_below_span made) spans (due_cells made due) n (map (dues_below made due ghosts) spans)) (omega arith)
           (AreJoined-map (is_below_span made) (due_cells made due) 0 ghosts spans);
-      ghosts_are = subst (λ n. AreJoined (has_above made) (due_cells made due) spans n (map (numbered lists forces) dues)) (omega arith)
-          (leaves_are_joined made spans lists are.spans_are forces (due_cells made due) dues are.dues_are);
+      ghosts_are = subst (λ n. AreJoined (has_above made) (due_cells made due) spans n (map (counted_from forces) at_dues)) (omega arith)
+          (leaves_are_joined made spans forces (due_cells made due) at_dues are.at_dues_are);
       forces_are = subst (λ n. AreJoined (is_below_span made) spans (due_cells made due) n (map (dues_below made due kicks) spans)) (omega arith)
           (AreJoined-map (is_below_span made) (due_cells made due) 0 kicks spans);
     }

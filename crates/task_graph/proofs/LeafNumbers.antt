@@ -18,9 +18,9 @@ use Rattle.cell_tree.proofs.Members.{length-numbers_from, get_or-numbers_from, b
 use Rattle.cell_tree.proofs.OctantLists.{numbers_more}
 use Rattle.cell_tree.proofs.Orders.{cells_few}
 use Rattle.cell_tree.proofs.TreeLists.{leaf_count-le}
-use Rattle.task_graph.specs.LeafLists.{has_span, counts_more}
-use Rattle.task_graph.specs.Parts.{AreLeavesOf, spans_at, span_at}
-use Rattle.task_graph.specs.Tasks.{due_cells, is_below_span, spanned_leaves}
+use Rattle.task_graph.specs.LeafLists.{counts_more, has_span, is_filled}
+use Rattle.task_graph.specs.Parts.{AreLeavesOf, span_at, spans_above}
+use Rattle.task_graph.specs.Tasks.{drifting_leaves, due_cells, is_below_span, spanned_leaves}
 
 -- one number more to choose from
 pub filter_numbers_more : (p : ℕ → Bool) (n : ℕ) → filter p (numbers_from 0 (n + 1)) ≡ filter p (numbers_from 0 n) ++ cond (p n) (n ∷ []) []
@@ -92,8 +92,23 @@ AreLeavesOf-agreeing made p q numbers agree e =
     AreLeavesOf-passing made p numbers
     (e ∙ filter_same q (λ leaf. p (slice_index (leaf_cells made) leaf)) (numbers_from 0 (leaf_count made)) (λ leaf c. agree leaf (below_from_numbers (leaf_count made) leaf c)))
 
-pub AreLeavesOf-none : (made : Made) → AreLeavesOf made [] []
+AreLeavesOf-none : (made : Made) → AreLeavesOf made [] []
 AreLeavesOf-none made = record { rising = λ k l. absurd (omega arith); below = λ number c. absurd (let l = c.1 in omega arith); cells_are = refl }
+
+module _ (made : Made) (spans : List Span) {drift : Bool} where
+  -- with drift the leaves below the spans drift
+  pub AreLeavesOf-drifting : {numbers drifting : List ℕ} → drift ≡ true → numbers ≡ drifting → AreLeavesOf made (spanned_leaves made spans) drifting → AreLeavesOf made (drifting_leaves made spans drift) numbers
+  AreLeavesOf-drifting t is of = rw (is, t) of
+
+  pub lists_drifting : {lists : List (List ℕ)} → drift ≡ true → lists ≡ map (spans_above made spans) (spanned_leaves made spans) → lists ≡ map (spans_above made spans) (drifting_leaves made spans drift)
+  lists_drifting t is = rw t is
+
+  -- and without none
+  pub AreLeavesOf-still : {numbers : List ℕ} → drift ≡ false → numbers ≡ [] → AreLeavesOf made (drifting_leaves made spans drift) numbers
+  AreLeavesOf-still f is = rw (is, f) (AreLeavesOf-none made)
+
+  pub lists_still : {lists : List (List ℕ)} → drift ≡ false → lists ≡ [] → lists ≡ map (spans_above made spans) (drifting_leaves made spans drift)
+  lists_still f is = rw f is
 
 -- some element passes where the kept ones are not none
 any_kept : {X : Type 0} (p : X → Bool) (xs : List X) → ltb 0 (length (filter p xs)) ≡ list_any p xs
@@ -104,27 +119,51 @@ any_kept p (x ∷ xs) =
       | inr f ↦ ap (λ b. ltb 0 (length (cond b (x ∷ filter p xs) (filter p xs)))) f ∙ any_kept p xs ∙ ap (λ b. b || list_any p xs) (sym f)
     ]
 
-module _ (made : Made) (spans : List Span) (lists : List (List ℕ)) (are : lists ≡ map (spans_at made spans) (numbers_from 0 (leaf_count made))) where
-  pub length_lists : length lists ≡ leaf_count made
-  length_lists = ap length are ∙ length-map (numbers_from 0 (leaf_count made)) (spans_at made spans) ∙ length-numbers_from 0 (leaf_count made)
+-- the lists that pass are those of the elements whose lists pass
+filter-map : {X Y : Type 0} (p : Y → Bool) (f : X → Y) (xs : List X) → filter p (map f xs) ≡ map f (filter (λ x. p (f x)) xs)
+filter-map p f [] = refl
+filter-map p f (x ∷ xs) =
+    elim (cases_Bool (p (f x))) [
+      | inl t ↦
+          ap (λ b. cond b (f x ∷ filter p (map f xs)) (filter p (map f xs))) t ∙ ap (λ ys. f x ∷ ys) (filter-map p f xs)
+          ∙ ap (λ b. map f (cond b (x ∷ filter (λ y. p (f y)) xs) (filter (λ y. p (f y)) xs))) (sym t)
+      | inr n ↦
+          ap (λ b. cond b (f x ∷ filter p (map f xs)) (filter p (map f xs))) n ∙ filter-map p f xs
+          ∙ ap (λ b. map f (cond b (x ∷ filter (λ y. p (f y)) xs) (filter (λ y. p (f y)) xs))) (sym n)
+    ]
 
-  has_span-is : (leaf : ℕ) → leaf < leaf_count made → has_span lists leaf ≡ list_any (λ span. is_below_span made span (slice_index (leaf_cells made) leaf)) spans
-  has_span-is leaf l =
-      let p = λ (span : Span). is_below_span made span (slice_index (leaf_cells made) leaf) in
+module _ (made : Made) (spans : List Span) where
+  -- the list of a leaf is filled where it is below a cell of a span
+  filled_is : (leaf : ℕ) → is_filled (spans_above made spans leaf) ≡ list_any (λ span. is_below_span made span leaf) spans
+  filled_is leaf =
+      let p = λ (span : Span). is_below_span made span leaf in
       let none : Span = record { first = 0; second = None } in
-      let kept = filter (λ number. p (span_at spans number)) (numbers_from 0 (length spans)) in
-      ap (λ ls. has_span ls leaf) are
-      ∙ ap (λ list. ltb 0 (length list)) (get_or-map (spans_at made spans) (numbers_from 0 (leaf_count made)) leaf 0 [] (omega (arith, length-numbers_from 0 (leaf_count made))))
-      ∙ ap (λ k. ltb 0 (length (spans_at made spans k))) (number_at (leaf_count made) leaf 0 l)
-      ∙ ap (ltb 0) (sym (length-map kept (span_at spans)))
+      ap (ltb 0) (sym (length-map (spans_above made spans leaf) (span_at spans)))
       ∙ ap (λ ss. ltb 0 (length ss)) (passes_by_number p none spans)
       ∙ any_kept p spans
 
-  -- the leaves with a span
-  pub AreLeavesOf-spanned : (numbers : List ℕ) → numbers ≡ filter (has_span lists) (numbers_from 0 (length lists)) → AreLeavesOf made (spanned_leaves made spans) numbers
-  AreLeavesOf-spanned numbers e =
-      AreLeavesOf-agreeing made (λ cell. list_any (λ span. is_below_span made span cell) spans) (has_span lists) numbers has_span-is
-      (e ∙ ap (λ n. filter (has_span lists) (numbers_from 0 n)) length_lists)
+  module _ (lists : List (List ℕ)) (are : lists ≡ map (spans_above made spans) (leaf_cells made)) where
+    pub length_lists : length lists ≡ leaf_count made
+    length_lists = ap length are ∙ length-map (leaf_cells made) (spans_above made spans) ∙ length-leaf_cells made
+
+    has_span-is : (leaf : ℕ) → leaf < leaf_count made → has_span lists leaf ≡ list_any (λ span. is_below_span made span (slice_index (leaf_cells made) leaf)) spans
+    has_span-is leaf l =
+        ap (λ ls. has_span ls leaf) are
+        ∙ ap is_filled (get_or-map (spans_above made spans) (leaf_cells made) leaf 0 [] (omega (arith, length-leaf_cells made)))
+        ∙ filled_is (slice_index (leaf_cells made) leaf)
+
+    -- the leaves with a span
+    pub AreLeavesOf-spanned : (numbers : List ℕ) → numbers ≡ filter (has_span lists) (numbers_from 0 (length lists)) → AreLeavesOf made (spanned_leaves made spans) numbers
+    AreLeavesOf-spanned numbers e =
+        AreLeavesOf-agreeing made (λ cell. list_any (λ span. is_below_span made span cell) spans) (has_span lists) numbers has_span-is
+        (e ∙ ap (λ n. filter (has_span lists) (numbers_from 0 n)) length_lists)
+
+    -- and their lists
+    pub filled_lists : filter is_filled lists ≡ map (spans_above made spans) (spanned_leaves made spans)
+    filled_lists =
+        ap (filter is_filled) are ∙ filter-map is_filled (spans_above made spans) (leaf_cells made)
+        ∙ ap (map (spans_above made spans))
+        (filter_same (λ leaf. is_filled (spans_above made spans leaf)) (λ leaf. list_any (λ span. is_below_span made span leaf) spans) (leaf_cells made) (λ leaf c. filled_is leaf))
 
 -- the count after a leaf is greater where it counts
 by_count : (a b : ℕ) (counts : Bool) → b ≡ a + cond counts 1 0 → ltb a b ≡ counts

@@ -1,5 +1,6 @@
 pub mod Adding
 pub mod Built
+pub mod CountedLeaves
 pub mod DueCounts
 pub mod EdgeCounts
 pub mod EdgeLists

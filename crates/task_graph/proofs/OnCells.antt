@@ -9,7 +9,7 @@ use Rattle.cell_tree.specs.declared.tree.Span.{Span}
 use Rattle.cell_tree.specs.Due.{has_due}
 use Rattle.cell_tree.specs.Spans.{IsOtherCell, IsSpan, leaf_cells}
 use Rattle.cell_tree.specs.Tree.{Made}
-use Rattle.task_graph.specs.Costs.{IsCellOrNone, IsOnCells}
+use Rattle.task_graph.specs.Placed.{IsCellOrNone, IsOnCells}
 use Rattle.task_graph.specs.Tasks.{cell_task, span_task, is_below_span, drifting_leaves, due_cells, tasks_of}
 use Rattle.task_graph.proofs.Touching.{leaf_within}
 

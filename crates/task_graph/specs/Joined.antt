@@ -1,12 +1,12 @@
 -- The lists of the numbers of what is related to one element.
-use Rattle.std.specs.Prelude.{ℕ, ◌+◌, ◌-◌, Bool, List, [], filter, map, length, slice_index, slice_index_or}
+use Rattle.std.specs.Prelude.{ℕ, ◌+◌, ◌-◌, Bool, List, filter, map, length, slice_index, slice_index_or}
 use Rattle.cell_tree.specs.declared.tree.Span.{Span}
 use Rattle.cell_tree.specs.Tree.{Made, numbers_from}
 use Rattle.task_graph.specs.Tasks.{due_cells, is_below_span}
 
--- the list at a place, with its numbers counted from the first number on
-abbrev pub numbered : List (List ℕ) → ℕ → ℕ → List ℕ
-numbered lists first place = map (λ number. first + number) (slice_index_or lists place [])
+-- numbers, counted from the first number on
+abbrev pub counted_from : ℕ → List ℕ → List ℕ
+counted_from first numbers = map (λ number. first + number) numbers
 
 -- the numbers of the related elements of a list, counted from the first number on
 abbrev pub joined_to : {A B : Type 0} → (A → B → Bool) → List B → B → ℕ → A → List ℕ

@@ -16,9 +16,9 @@ plan_with tasks successors waits costs weights = record { tasks = tasks; success
 abbrev pub span_at : List Span → ℕ → Span
 span_at spans number = slice_index_or spans number (record { first = 0; second = None })
 
--- the numbers of the spans that have the leaf of this number below a cell
-abbrev pub spans_at : Made → List Span → ℕ → List ℕ
-spans_at made spans leaf = filter (λ number. is_below_span made (span_at spans number) (slice_index (leaf_cells made) leaf)) (numbers_from 0 (length spans))
+-- the numbers of the spans that have a leaf, by its cell, below a cell
+abbrev pub spans_above : Made → List Span → ℕ → List ℕ
+spans_above made spans leaf = filter (λ number. is_below_span made (span_at spans number) leaf) (numbers_from 0 (length spans))
 
 -- leaves by their numbers, rising: those of these cells
 pub record AreLeavesOf (made : Made) (cells numbers : List ℕ) : Type 0 where
@@ -26,11 +26,13 @@ pub record AreLeavesOf (made : Made) (cells numbers : List ℕ) : Type 0 where
   pub below : (number : ℕ) → Contains numbers number → number < leaf_count made
   pub cells_are : map (slice_index (leaf_cells made)) numbers ≡ cells
 
--- what is known of the leaves: the spans at each, those that drift, those with a due member, and how many of these stand before each
-pub record AreLeavesFor (made : Made) (spans : List Span) (due : List Bool) (drift : Bool) (lists : List (List ℕ)) (drifting dues before : List ℕ) : Type 0 where
-  pub spans_are : lists ≡ map (spans_at made spans) (numbers_from 0 (leaf_count made))
+-- what is known of the leaves: those that drift and those with a due member, each with the spans above it, and how many of the latter
+-- stand before each leaf
+pub record AreLeavesFor (made : Made) (spans : List Span) (due : List Bool) (drift : Bool) (drifting : List ℕ) (at_drifting : List (List ℕ)) (dues : List ℕ) (at_dues : List (List ℕ)) (before : List ℕ) : Type 0 where
   pub drifting_are : AreLeavesOf made (drifting_leaves made spans drift) drifting
+  pub at_drifting_are : at_drifting ≡ map (spans_above made spans) (drifting_leaves made spans drift)
   pub dues_are : AreLeavesOf made (due_cells made due) dues
+  pub at_dues_are : at_dues ≡ map (spans_above made spans) (due_cells made due)
   pub before_are : AreDueBefore made due before
 
 -- the number is that of an element of the list which is related to one of another, numbered from a first number on

@@ -2,7 +2,7 @@
 ghost use Rattle.std.specs.Prelude.{◌≡◌, ◌*◌, ◌≤◌, ◌^◌, map, All, IfOk, MatchOption};
 ghost use Rattle.cell_tree.specs.Laws.{CanBeMade};
 ghost use Rattle.cell_tree.specs.Spans.{count_of};
-ghost use Rattle.task_graph.specs.Costs.{IsCellOrNone, IsOnCells};
+ghost use Rattle.task_graph.specs.Placed.{IsCellOrNone, IsOnCells};
 ghost use Rattle.task_graph.specs.Tasks.{cost_of};
 
 use crate::task::Task;

@@ -1,7 +1,8 @@
 //! The graph: its tasks, which of them wait for which, what they cost and how urgent they are.
-ghost use Rattle.std.specs.Prelude.{◌≡◌, ◌<◌, ◌^◌, Bool, List, length, slice_index, All, IfOk};
+ghost use Rattle.std.specs.Prelude.{◌≡◌, ◌<◌, ◌≤◌, ◌^◌, ℕ, Bool, List, length, slice_index, All, IfOk};
+ghost use Rattle.std.specs.List.Sorted.{IsStrictlyIncreasing};
 ghost use Rattle.cell_tree.specs.Spans.{IsSpan};
-ghost use Rattle.cell_tree.specs.Tree.{leaf_count};
+ghost use Rattle.cell_tree.specs.Tree.{AreLeavesBelow, cells_of};
 ghost use Rattle.task_graph.specs.Graph.{IsPlan, graph_of, task_at};
 ghost use Rattle.task_graph.specs.Parts.{AreLeavesFor};
 ghost use Rattle.task_graph.specs.Tasks.{tasks_of};
@@ -48,8 +49,8 @@ fn all_tasks(
     spans: &[Span],
     leaves: &Leaves,
 ) -> Result<Vec<Task>, AllocError>
-    requires { (due : List Bool) × (drift : Bool) × AreLeavesFor tree.now spans.now due drift leaves.now.spans_at.items leaves.now.drifting.items leaves.now.dues.items leaves.now.due_before.items }
-    ensures { (due : List Bool) (drift : Bool) → AreLeavesFor tree.now spans.now due drift leaves.now.spans_at.items leaves.now.drifting.items leaves.now.dues.items leaves.now.due_before.items
+    requires { (due : List Bool) × (drift : Bool) × AreLeavesFor tree.now spans.now due drift leaves.now.drifting.items leaves.now.at_drifting.items leaves.now.dues.items leaves.now.at_dues.items leaves.now.due_before.items }
+    ensures { (due : List Bool) (drift : Bool) → AreLeavesFor tree.now spans.now due drift leaves.now.drifting.items leaves.now.at_drifting.items leaves.now.dues.items leaves.now.at_dues.items leaves.now.due_before.items
         → IfOk result (λ v. v.items ≡ tasks_of tree.now spans.now due drift) }
 {
     let mut tasks = Vec::new(alloc);
@@ -77,6 +78,7 @@ impl Graph {
         ensures value { IfOk result (λ plan. plan ≡ graph_of tree.now spans.now due.now drift) }
         ensures weights { IfOk result (λ plan. AreWeights plan.costs plan.successors plan.weights) }
         ensures forward { IfOk result (λ plan. AreForward plan.successors) }
+        ensures rising { IfOk result (λ plan. (task : ℕ) → task < length plan.successors → IsStrictlyIncreasing (after_of plan.successors task)) }
     {
         let leaves = Leaves::of(alloc, tree, spans, due, drift)?;
         let tasks = all_tasks(alloc, tree, spans, &leaves)?;
@@ -156,12 +158,13 @@ impl Graph {
 mod tests {
     use super::*;
 
-    /// The spans of two leaves: each alone, and both.
-    fn spans_of(tree: &Tree) -> [Span; 3]
-        requires { leaf_count tree.now ≡ 2 }
+    /// The spans of two cells, of which the one's leaves come before the other's: each alone, and both.
+    fn spans_of(tree: &Tree, low: u32, high: u32) -> [Span; 3]
+        requires low { low < length (cells_of tree.now) }
+        requires high { high < length (cells_of tree.now) }
+        requires apart { (from : ℕ) × (middle : ℕ) × (next : ℕ) × (end : ℕ) × AreLeavesBelow tree.now low from middle × AreLeavesBelow tree.now high next end × (middle ≤ next) }
         ensures { All (IsSpan tree.now) result }
     {
-        let (low, high) = (tree.cell_of(0), tree.cell_of(1));
         [
             Span {
                 first: low,
@@ -176,6 +179,30 @@ mod tests {
                 second: Some(high),
             },
         ]
+    }
+
+    /// Two points in two leaves, the cells 10 and 11.
+    fn two_leaves(alloc: Global) -> Result<Tree, AllocError>
+        ensures { IfOk result (λ made. length made.points ≡ 2) }
+    {
+        Tree::build(alloc, &[[1000, 0, 0], [1512, 0, 0]], &[1024; 2], 1)
+    }
+
+    /// Eight points in the leaves of two cells, the cells 2 to 5 in cell 1 and 7 to 10 in cell 6.
+    fn eight_corners(alloc: Global) -> Result<Tree, AllocError>
+        ensures { IfOk result (λ made. length made.points ≡ 8) }
+    {
+        let points = [
+            [0, 0, 0],
+            [0, 0, 262_144],
+            [0, 262_144, 0],
+            [0, 262_144, 262_144],
+            [524_288, 0, 0],
+            [524_288, 0, 262_144],
+            [524_288, 262_144, 0],
+            [524_288, 262_144, 262_144],
+        ];
+        Tree::build(alloc, &points, &[1024; 8], 1)
     }
 
     fn push_edges(graph: &Graph, task: u32, edges: &mut Vec<(u32, u32)>) -> Result<(), AllocError>
@@ -216,10 +243,16 @@ mod tests {
 
     #[test]
     fn joins_two_leaves(rt: HostRuntime) -> Result<(), AllocError> {
-        let points = [[1000, 0, 0], [1512, 0, 0]];
-        let tree = Tree::build(rt.alloc(), &points, &[1024; 2], 1)?;
-        assert!(rt; tree.leaves() == 2);
-        let graph = Graph::build(rt.alloc(), &tree, &spans_of(&tree), &[true; 2], false)?;
+        let tree = two_leaves(rt.alloc())?;
+        assert!(rt; tree.cells() == 12);
+        assert!(rt; tree.leaves_below(10).1 <= tree.leaves_below(11).0);
+        let graph = Graph::build(
+            rt.alloc(),
+            &tree,
+            &spans_of(&tree, 10, 11),
+            &[true; 2],
+            false,
+        )?;
         assert!(rt; graph.tasks() == 10);
         assert_eq!(rt; graph.kind(2), Kind::Density);
         assert_eq!(rt; graph.cells_of(2), (10, Some(11)));
@@ -257,10 +290,16 @@ mod tests {
 
     #[test]
     fn drifts_each_leaf_first(rt: HostRuntime) -> Result<(), AllocError> {
-        let points = [[1000, 0, 0], [1512, 0, 0]];
-        let tree = Tree::build(rt.alloc(), &points, &[1024; 2], 1)?;
-        assert!(rt; tree.leaves() == 2);
-        let graph = Graph::build(rt.alloc(), &tree, &spans_of(&tree), &[true; 2], true)?;
+        let tree = two_leaves(rt.alloc())?;
+        assert!(rt; tree.cells() == 12);
+        assert!(rt; tree.leaves_below(10).1 <= tree.leaves_below(11).0);
+        let graph = Graph::build(
+            rt.alloc(),
+            &tree,
+            &spans_of(&tree, 10, 11),
+            &[true; 2],
+            true,
+        )?;
         assert!(rt; graph.tasks() == 12);
         assert_eq!(rt; graph.kind(1), Kind::Drift);
         assert_eq!(rt; graph.cells_of(0), (10, None));
@@ -274,15 +313,84 @@ mod tests {
 
     #[test]
     fn leaves_out_what_is_not_due(rt: HostRuntime) -> Result<(), AllocError> {
-        let points = [[1000, 0, 0], [1512, 0, 0]];
-        let tree = Tree::build(rt.alloc(), &points, &[1024; 2], 1)?;
-        assert!(rt; tree.leaves() == 2);
-        let graph = Graph::build(rt.alloc(), &tree, &spans_of(&tree), &[true, false], false)?;
+        let tree = two_leaves(rt.alloc())?;
+        assert!(rt; tree.cells() == 12);
+        assert!(rt; tree.leaves_below(10).1 <= tree.leaves_below(11).0);
+        let graph = Graph::build(
+            rt.alloc(),
+            &tree,
+            &spans_of(&tree, 10, 11),
+            &[true, false],
+            false,
+        )?;
         assert_eq!(rt; graph.tasks(), 8);
         let edges = all_edges(rt.alloc(), &graph)?;
         assert_eq!(rt;
             edges.as_slice(),
             [(0, 3), (2, 3), (3, 4), (3, 6), (4, 7), (6, 7)].as_slice()
+        );
+        Ok(())
+    }
+
+    #[test]
+    fn joins_inner_cells_at_due_leaves(rt: HostRuntime) -> Result<(), AllocError> {
+        let tree = eight_corners(rt.alloc())?;
+        assert!(rt; tree.cells() == 11);
+        assert!(rt; tree.leaves_below(1).1 <= tree.leaves_below(6).0);
+        let spans = spans_of(&tree, 1, 6);
+        let due = [true, false, false, false, true, false, false, false];
+        let graph = Graph::build(rt.alloc(), &tree, &spans, &due, false)?;
+        assert_eq!(rt; graph.tasks(), 10);
+        let edges = all_edges(rt.alloc(), &graph)?;
+        assert_eq!(rt;
+            edges.as_slice(),
+            [
+                (0, 3),
+                (1, 4),
+                (2, 3),
+                (2, 4),
+                (3, 5),
+                (3, 7),
+                (4, 6),
+                (4, 7),
+                (5, 8),
+                (6, 9),
+                (7, 8),
+                (7, 9),
+            ]
+            .as_slice()
+        );
+        let costs = all_costs(rt.alloc(), &graph)?;
+        assert_eq!(rt;
+            costs.as_slice(),
+            [10, 10, 16, 1, 1, 6, 6, 16, 1, 1].as_slice()
+        );
+        let weights = all_weights(rt.alloc(), &graph)?;
+        assert_eq!(rt;
+            weights.as_slice(),
+            [28, 28, 34, 18, 18, 7, 7, 17, 1, 1].as_slice()
+        );
+        Ok(())
+    }
+
+    #[test]
+    fn drifts_only_below_spans(rt: HostRuntime) -> Result<(), AllocError> {
+        let tree = eight_corners(rt.alloc())?;
+        assert!(rt; tree.cells() == 11);
+        assert!(rt; tree.leaves_below(1).1 <= tree.leaves_below(7).0);
+        let spans = spans_of(&tree, 1, 7);
+        let graph = Graph::build(rt.alloc(), &tree, &spans, &[false; 8], true)?;
+        assert!(rt; graph.tasks() == 11);
+        assert_eq!(rt; graph.kind(4), Kind::Drift);
+        assert_eq!(rt; graph.cells_of(3), (5, None));
+        assert_eq!(rt; graph.cells_of(4), (7, None));
+        assert_eq!(rt; graph.kind(5), Kind::Density);
+        assert_eq!(rt; graph.successors(3), [5, 7].as_slice());
+        assert_eq!(rt; graph.successors(4), [6, 7].as_slice());
+        let waits = all_waits(rt.alloc(), &graph)?;
+        assert_eq!(rt;
+            waits.as_slice(),
+            [0, 0, 0, 0, 0, 4, 1, 5, 0, 0, 0].as_slice()
         );
         Ok(())
     }

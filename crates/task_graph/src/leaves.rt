@@ -1,16 +1,17 @@
-//! Which spans have each leaf below a cell, which leaves drift and which have a due member.
-ghost use Rattle.std.specs.Prelude.{◌≡◌, ◌-◌, ◌^◌, ◌<◌, ◌≤◌, [], ◌∷◌, ◌++◌, filter, length, map, replicate, All, IfOk, OnOk};
+//! Which leaves drift, which have a due member, and which spans have each of them below a cell.
+ghost use Rattle.std.specs.Prelude.{◌≡◌, ◌-◌, ◌^◌, ◌<◌, ◌≤◌, ℕ, List, [], ◌∷◌, ◌++◌, filter, length, map, replicate, slice_index, All, IfOk, OnOk};
 ghost use Rattle.cell_tree.specs.Laws.{CanBeMade};
-ghost use Rattle.cell_tree.specs.Spans.{IsSpan};
-ghost use Rattle.cell_tree.specs.Tree.{leaf_count, numbers_from};
-ghost use Rattle.task_graph.specs.LeafLists.{AddsWithin, AddsSpan, has_span, counts_more};
-ghost use Rattle.task_graph.specs.Parts.{AreLeavesFor, spans_at};
+ghost use Rattle.cell_tree.specs.Spans.{IsSpan, leaf_cells};
+ghost use Rattle.cell_tree.specs.Tree.{numbers_from};
+ghost use Rattle.task_graph.specs.LeafLists.{AddsSpan, AddsWithin, AreCountsOf, counts_more, has_span};
+ghost use Rattle.task_graph.specs.Parts.{AreLeavesFor, AreLeavesOf, spans_above};
+ghost use Rattle.task_graph.specs.Tasks.{spanned_leaves};
 
 use cell_tree::{Span, Tree, due_leaves};
 use std::alloc::{AllocError, Global};
 use std::marker::Model;
 
-/// The numbers of the spans at one leaf, rising.
+/// The numbers of the spans above one leaf, rising.
 #[derive(Debug, Drop)]
 pub struct SpansAt {
     numbers: Vec<u32>,
@@ -44,42 +45,53 @@ impl SpansAt {
 /// What is known of the leaves, by their numbers.
 #[derive(Debug, Drop)]
 pub struct Leaves {
-    /// The spans that have each leaf below a cell.
-    pub spans_at: Vec<SpansAt>,
     /// The leaves that drift, rising.
     pub drifting: Vec<u32>,
+    /// The spans above each of them.
+    pub at_drifting: Vec<SpansAt>,
     /// The leaves with a due member, rising.
     pub dues: Vec<u32>,
+    /// The spans above each of them.
+    pub at_dues: Vec<SpansAt>,
     /// How many of the leaves before each leaf have a due member, and last how many of all.
     pub due_before: Vec<u32>,
 }
 
-/// Adds a number at each leaf from the first up to the second.
-fn add_below(spans_at: &mut [SpansAt], below: (u32, u32), number: u32) -> Result<(), AllocError>
-    requires ordered { below.0 ≤ below.1 }
-    requires within { below.1 ≤ length spans_at.old }
-    ensures { OnOk result (AddsWithin below.0 below.1 number spans_at.old spans_at.new) }
+/// Adds a number at those leaves that stand from the count at the first leaf up to the count at the second.
+fn add_below(
+    spans_at: &mut [SpansAt],
+    before: &[u32],
+    below: (u32, u32),
+    number: u32,
+) -> Result<(), AllocError>
+    requires from_in { below.0 < length before.now }
+    requires to_in { below.1 < length before.now }
+    requires ordered { slice_index before.now below.0 ≤ slice_index before.now below.1 }
+    requires within { slice_index before.now below.1 ≤ length spans_at.old }
+    ensures { OnOk result (AddsWithin (slice_index before.now below.0) (slice_index before.now below.1) number spans_at.old spans_at.new) }
 {
-    for leaf in below.0..below.1 {
+    let (from, to) = below;
+    for leaf in before[from as usize]..before[to as usize] {
         spans_at[leaf as usize].push(number)?;
     }
     Ok(())
 }
 
-/// Adds a span's number at the leaves below its cells.
+/// Adds a span's number at those leaves, told by the counts, that are below its cells.
 fn add_span(
     spans_at: &mut [SpansAt],
     tree: &Tree,
+    before: &[u32],
     span: Span,
     number: u32,
 ) -> Result<(), AllocError>
-    requires one_list_each { length spans_at.old ≡ leaf_count tree.now }
+    requires counts { (cells : List ℕ) × AreCountsOf tree.now cells before.now × (length spans_at.old ≡ length cells) }
     requires span { IsSpan tree.now span }
-    ensures { OnOk result (AddsSpan tree.now span number spans_at.old spans_at.new) }
+    ensures { (cells : List ℕ) → AreCountsOf tree.now cells before.now → OnOk result (AddsSpan tree.now cells span number spans_at.old spans_at.new) }
 {
-    add_below(spans_at, tree.leaves_below(span.first), number)?;
+    add_below(spans_at, before, tree.leaves_below(span.first), number)?;
     match span.second {
-        Some(second) => add_below(spans_at, tree.leaves_below(second), number),
+        Some(second) => add_below(spans_at, before, tree.leaves_below(second), number),
         None => Ok(()),
     }
 }
@@ -97,17 +109,32 @@ fn no_spans(alloc: Global, leaves: u32) -> Result<Vec<SpansAt>, AllocError>
     Ok(spans_at)
 }
 
-/// The spans at each leaf.
-fn spans_at_leaves(alloc: Global, tree: &Tree, spans: &[Span]) -> Result<Vec<SpansAt>, AllocError>
+/// The spans above each of some leaves, of which as many stand before each leaf of the tree as the counts
+/// say.
+fn spans_at_leaves(
+    alloc: Global,
+    tree: &Tree,
+    spans: &[Span],
+    before: &[u32],
+) -> Result<Vec<SpansAt>, AllocError>
+    requires counts { (cells : List ℕ) × AreCountsOf tree.now cells before.now }
     requires spans { All (IsSpan tree.now) spans.now }
     requires few { length spans.now < 2 ^ 30 }
-    ensures { IfOk result (λ v. v.items ≡ map (spans_at tree.now spans.now) (numbers_from 0 (leaf_count tree.now))) }
+    ensures { (cells : List ℕ) → AreCountsOf tree.now cells before.now → IfOk result (λ v. v.items ≡ map (spans_above tree.now spans.now) cells) }
 {
-    let mut spans_at = no_spans(alloc, tree.leaves())?;
+    let mut spans_at = no_spans(alloc, before[tree.leaves() as usize])?;
     for (number, span) in spans.iter().enumerate() {
-        add_span(&mut spans_at, tree, *span, number as u32)?;
+        add_span(&mut spans_at, tree, before, *span, number as u32)?;
     }
     Ok(spans_at)
+}
+
+/// How many leaves stand before each leaf, and last how many there are.
+fn leaves_before(alloc: Global, tree: &Tree) -> Result<Vec<u32>, AllocError>
+    requires { CanBeMade tree.now }
+    ensures { IfOk result (λ v. AreCountsOf tree.now (leaf_cells tree.now) v.items) }
+{
+    (0..tree.leaves() + 1).collect(alloc)
 }
 
 /// The leaves with a span, rising.
@@ -122,6 +149,25 @@ fn leaves_with_spans(alloc: Global, spans_at: &[SpansAt]) -> Result<Vec<u32>, Al
         }
     }
     Ok(leaves)
+}
+
+/// The leaves below a cell of a span, rising, and the spans above each of them.
+fn all_spanned(
+    alloc: Global,
+    tree: &Tree,
+    spans: &[Span],
+) -> Result<(Vec<u32>, Vec<SpansAt>), AllocError>
+    requires can { CanBeMade tree.now }
+    requires spans { All (IsSpan tree.now) spans.now }
+    requires few { length spans.now < 2 ^ 30 }
+    ensures leaves { IfOk result (λ p. AreLeavesOf tree.now (spanned_leaves tree.now spans.now) p.0.items) }
+    ensures at { IfOk result (λ p. p.1.items ≡ map (spans_above tree.now spans.now) (spanned_leaves tree.now spans.now)) }
+{
+    let before = leaves_before(alloc, tree)?;
+    let mut spans_at = spans_at_leaves(alloc, tree, spans, &before)?;
+    let leaves = leaves_with_spans(alloc, &spans_at)?;
+    spans_at.retain(|at| !at.as_slice().is_empty());
+    Ok((leaves, spans_at))
 }
 
 /// The leaves with a due member, rising: those after which more have one.
@@ -151,21 +197,22 @@ impl Leaves {
         requires one_flag_each { length due.now ≡ length tree.now.points }
         requires spans { All (IsSpan tree.now) spans.now }
         requires few { length spans.now < 2 ^ 30 }
-        ensures leaves { IfOk result (λ l. AreLeavesFor tree.now spans.now due.now drift l.spans_at.items l.drifting.items l.dues.items l.due_before.items) }
+        ensures leaves { IfOk result (λ l. AreLeavesFor tree.now spans.now due.now drift l.drifting.items l.at_drifting.items l.dues.items l.at_dues.items l.due_before.items) }
         ensures can { OnOk result (CanBeMade tree.now) }
     {
         let due_before = due_leaves(alloc, tree, due)?;
         let dues = leaves_due(alloc, &due_before)?;
-        let spans_at = spans_at_leaves(alloc, tree, spans)?;
-        let drifting = if drift {
-            leaves_with_spans(alloc, &spans_at)?
+        let at_dues = spans_at_leaves(alloc, tree, spans, &due_before)?;
+        let (drifting, at_drifting) = if drift {
+            all_spanned(alloc, tree, spans)?
         } else {
-            Vec::new(alloc)
+            (Vec::new(alloc), Vec::new(alloc))
         };
         Ok(Leaves {
-            spans_at,
             drifting,
+            at_drifting,
             dues,
+            at_dues,
             due_before,
         })
     }

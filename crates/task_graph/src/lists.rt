@@ -4,7 +4,7 @@ ghost use Rattle.cell_tree.specs.Due.{AreDueBefore};
 ghost use Rattle.cell_tree.specs.Laws.{CanBeMade};
 ghost use Rattle.cell_tree.specs.Spans.{IsSpan};
 ghost use Rattle.cell_tree.specs.Tree.{leaf_count, numbers_from};
-ghost use Rattle.task_graph.specs.Joined.{counted_between, dues_below, numbered};
+ghost use Rattle.task_graph.specs.Joined.{counted_between, counted_from, dues_below};
 ghost use Rattle.task_graph.specs.Parts.{AddsLists, AreEdgeLists, AreLeavesFor};
 ghost use Rattle.task_weight.specs.Edges.{AreStarts};
 
@@ -112,22 +112,16 @@ impl EdgeLists {
     }
 
     /// Adds a list for each of some leaves: the tasks on the spans at it, which number from the first on.
-    fn add_leaves(
-        &mut self,
-        leaves: &[u32],
-        spans_at: &[SpansAt],
-        first: u32,
-    ) -> Result<(), AllocError>
+    fn add_leaves(&mut self, spans_at: &[SpansAt], first: u32) -> Result<(), AllocError>
         requires starts { AreStarts self.old.starts.items self.old.ends.items }
-        requires few { length self.old.starts.items + length leaves.now ≤ 2 ^ 32 }
-        requires within { All (λ leaf. leaf < length spans_at.now) leaves.now }
+        requires few { length self.old.starts.items + length spans_at.now ≤ 2 ^ 32 }
         requires fits { All (λ spans. All (λ span. first + span < 2 ^ 32) spans) spans_at.now }
-        ensures count { OnOk result (length self.new.starts.items ≡ length self.old.starts.items + length leaves.now) }
+        ensures count { OnOk result (length self.new.starts.items ≡ length self.old.starts.items + length spans_at.now) }
         ensures lists { OnOk result (AddsLists self.old.starts.items self.old.ends.items self.new.starts.items self.new.ends.items
-            (map (numbered spans_at.now first) leaves.now)) }
+            (map (counted_from first) spans_at.now)) }
     {
-        for leaf in leaves {
-            push_spans(&mut self.ends, spans_at[*leaf as usize].as_slice(), first)?;
+        for spans in spans_at {
+            push_spans(&mut self.ends, spans.as_slice(), first)?;
             self.end_list()?;
         }
         Ok(())
@@ -184,18 +178,18 @@ pub fn edge_lists(
     requires can { CanBeMade tree.now }
     requires spans { All (IsSpan tree.now) spans.now }
     requires few { length spans.now < 2 ^ 30 }
-    requires leaves { (due : List Bool) × (drift : Bool) × AreLeavesFor tree.now spans.now due drift leaves.now.spans_at.items leaves.now.drifting.items leaves.now.dues.items leaves.now.due_before.items }
+    requires leaves { (due : List Bool) × (drift : Bool) × AreLeavesFor tree.now spans.now due drift leaves.now.drifting.items leaves.now.at_drifting.items leaves.now.dues.items leaves.now.at_dues.items leaves.now.due_before.items }
     requires densities { numbers.densities ≡ length leaves.now.drifting.items }
     requires ghosts { numbers.ghosts ≡ length leaves.now.drifting.items + length spans.now }
     requires forces { numbers.forces ≡ length leaves.now.drifting.items + length spans.now + length leaves.now.dues.items }
     requires kicks { numbers.kicks ≡ length leaves.now.drifting.items + length spans.now + length leaves.now.dues.items + length spans.now }
-    ensures { (due : List Bool) (drift : Bool) → AreLeavesFor tree.now spans.now due drift leaves.now.spans_at.items leaves.now.drifting.items leaves.now.dues.items leaves.now.due_before.items
+    ensures { (due : List Bool) (drift : Bool) → AreLeavesFor tree.now spans.now due drift leaves.now.drifting.items leaves.now.at_drifting.items leaves.now.dues.items leaves.now.at_dues.items leaves.now.due_before.items
         → IfOk result (AreEdgeLists tree.now spans.now due drift) }
 {
     let mut lists = EdgeLists::new(alloc)?;
-    lists.add_leaves(&leaves.drifting, &leaves.spans_at, numbers.densities)?;
+    lists.add_leaves(&leaves.at_drifting, numbers.densities)?;
     lists.add_spans(tree, spans, &leaves.due_before, numbers.ghosts)?;
-    lists.add_leaves(&leaves.dues, &leaves.spans_at, numbers.forces)?;
+    lists.add_leaves(&leaves.at_dues, numbers.forces)?;
     lists.add_spans(tree, spans, &leaves.due_before, numbers.kicks)?;
     lists.add_empty(leaves.dues.len())?;
     Ok(Edges::new(lists.starts, lists.ends))

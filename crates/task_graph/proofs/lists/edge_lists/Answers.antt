@@ -3,88 +3,102 @@ use Rattle.cell_tree.specs.Due.{AreDueBefore}
 use Rattle.task_graph.specs.Parts.{AreEdgeLists}
 use Rattle.task_graph.proofs.Adding.{edges_of-parts}
 use Rattle.task_graph.proofs.Joining.{are_edge_lists}
-use Rattle.task_graph.proofs.LeafBounds.{counts_fit, leaves_within, lists_few, span_numbers_fit}
+use Rattle.task_graph.proofs.LeafBounds.{counts_fit, lists_few, span_numbers_fit}
 use Rattle.task_graph.proofs.lists.edge_lists.Goals as goal
-
-pub add_leaves-requires-clause-within : goal.add_leaves-requires-clause-within
-add_leaves-requires-clause-within c =
-    let are = c.requires.leaves.2 in
-    rw (c.deref.ensures.value, c.deref-2.ensures.value) (leaves_within _ _ _ _ _ _ _ _ are _ _ are.drifting_are)
 
 pub add_leaves-requires-clause-fits : goal.add_leaves-requires-clause-fits
 add_leaves-requires-clause-fits c =
     let are = c.requires.leaves.2 in
-    let few = lists_few _ _ _ _ _ _ _ _ c.requires.can are in
-    rw c.deref-2.ensures.value (span_numbers_fit _ _ _ _ _ _ _ _ are c.args.numbers.densities (omega arith))
+    let few = lists_few _ _ _ _ _ _ _ _ _ c.requires.can are in
+    let a = few.few_drift in
+    let b = few.few_due in
+    rw c.deref.ensures.value (span_numbers_fit c.args.tree.now c.args.spans.now _ _ are.at_drifting_are c.args.numbers.densities (omega arith))
 
 pub add_spans-requires-clause-few : goal.add_spans-requires-clause-few
 add_spans-requires-clause-few c =
-    let few = lists_few _ _ _ _ _ _ _ _ c.requires.can c.requires.leaves.2 in
+    let few = lists_few _ _ _ _ _ _ _ _ _ c.requires.can c.requires.leaves.2 in
+    let a = few.few_drift in
+    let b = few.few_due in
+    let d = few.drifts in
+    let e = few.dues_each in
     omega (arith, c.in_ok-add_leaves.ensures.count, ap length c.in_ok-lists.ensures.starts, ap length c.deref.ensures.value)
 
 pub add_spans-requires-clause-long : goal.add_spans-requires-clause-long
-add_spans-requires-clause-long c = ap length c.deref-3.ensures.value ∙ c.requires.leaves.2.before_are.long
+add_spans-requires-clause-long c = ap length c.deref-2.ensures.value ∙ c.requires.leaves.2.before_are.long
 
 pub add_spans-requires-clause-fits : goal.add_spans-requires-clause-fits
 add_spans-requires-clause-fits c =
     let are = c.requires.leaves.2 in
-    let few = lists_few _ _ _ _ _ _ _ _ c.requires.can are in
-    rw c.deref-3.ensures.value (counts_fit _ _ _ c.args.numbers.ghosts c.requires.can are.before_are (omega arith))
+    let few = lists_few _ _ _ _ _ _ _ _ _ c.requires.can are in
+    let a = few.few_drift in
+    let b = few.few_due in
+    rw c.deref-2.ensures.value (counts_fit _ _ _ c.args.numbers.ghosts c.requires.can are.before_are (omega arith))
 
 pub add_leaves-requires-2-clause-starts : goal.add_leaves-requires-2-clause-starts
 add_leaves-requires-2-clause-starts c =
     let k = c.requires.leaves in
-    (c.in_ok-add_spans.ensures.lists k.0 (subst (AreDueBefore c.args.tree.now k.0) (sym c.deref-3.ensures.value) k.2.before_are)).are_starts
+    (c.in_ok-add_spans.ensures.lists k.0 (subst (AreDueBefore c.args.tree.now k.0) (sym c.deref-2.ensures.value) k.2.before_are)).are_starts
 
 pub add_leaves-requires-2-clause-few : goal.add_leaves-requires-2-clause-few
 add_leaves-requires-2-clause-few c =
-    let few = lists_few _ _ _ _ _ _ _ _ c.requires.can c.requires.leaves.2 in
-    omega (arith, c.in_ok-add_leaves.ensures.count, c.in_ok-add_spans.ensures.count, ap length c.in_ok-lists.ensures.starts, ap length c.deref.ensures.value, ap length c.deref-4.ensures.value)
-
-pub add_leaves-requires-2-clause-within : goal.add_leaves-requires-2-clause-within
-add_leaves-requires-2-clause-within c =
-    let are = c.requires.leaves.2 in
-    rw (c.deref-4.ensures.value, c.deref-5.ensures.value) (leaves_within _ _ _ _ _ _ _ _ are _ _ are.dues_are)
+    let few = lists_few _ _ _ _ _ _ _ _ _ c.requires.can c.requires.leaves.2 in
+    let a = few.few_drift in
+    let b = few.few_due in
+    let d = few.drifts in
+    let e = few.dues_each in
+    omega (arith, c.in_ok-add_leaves.ensures.count, c.in_ok-add_spans.ensures.count, ap length c.in_ok-lists.ensures.starts, ap length c.deref.ensures.value, ap length c.deref-3.ensures.value)
 
 pub add_leaves-requires-2-clause-fits : goal.add_leaves-requires-2-clause-fits
 add_leaves-requires-2-clause-fits c =
     let are = c.requires.leaves.2 in
-    let few = lists_few _ _ _ _ _ _ _ _ c.requires.can are in
-    rw c.deref-5.ensures.value (span_numbers_fit _ _ _ _ _ _ _ _ are c.args.numbers.forces (omega arith))
+    let few = lists_few _ _ _ _ _ _ _ _ _ c.requires.can are in
+    let a = few.few_drift in
+    let b = few.few_due in
+    rw c.deref-3.ensures.value (span_numbers_fit c.args.tree.now c.args.spans.now _ _ are.at_dues_are c.args.numbers.forces (omega arith))
 
 pub add_spans-requires-2-clause-few : goal.add_spans-requires-2-clause-few
 add_spans-requires-2-clause-few c =
-    let few = lists_few _ _ _ _ _ _ _ _ c.requires.can c.requires.leaves.2 in
-    omega (arith, c.in_ok-add_leaves.ensures.count, c.in_ok-add_spans.ensures.count, c.in_ok-add_leaves-2.ensures.count, ap length c.in_ok-lists.ensures.starts, ap length c.deref.ensures.value, ap length c.deref-4.ensures.value)
+    let few = lists_few _ _ _ _ _ _ _ _ _ c.requires.can c.requires.leaves.2 in
+    let a = few.few_drift in
+    let b = few.few_due in
+    let d = few.drifts in
+    let e = few.dues_each in
+    omega (arith, c.in_ok-add_leaves.ensures.count, c.in_ok-add_spans.ensures.count, c.in_ok-add_leaves-2.ensures.count, ap length c.in_ok-lists.ensures.starts, ap length c.deref.ensures.value, ap length c.deref-3.ensures.value)
 
 pub add_spans-requires-2-clause-long : goal.add_spans-requires-2-clause-long
-add_spans-requires-2-clause-long c = ap length c.deref-6.ensures.value ∙ c.requires.leaves.2.before_are.long
+add_spans-requires-2-clause-long c = ap length c.deref-4.ensures.value ∙ c.requires.leaves.2.before_are.long
 
 pub add_spans-requires-2-clause-fits : goal.add_spans-requires-2-clause-fits
 add_spans-requires-2-clause-fits c =
     let are = c.requires.leaves.2 in
-    let few = lists_few _ _ _ _ _ _ _ _ c.requires.can are in
-    rw c.deref-6.ensures.value (counts_fit _ _ _ c.args.numbers.kicks c.requires.can are.before_are (omega arith))
+    let few = lists_few _ _ _ _ _ _ _ _ _ c.requires.can are in
+    let a = few.few_drift in
+    let b = few.few_due in
+    rw c.deref-4.ensures.value (counts_fit _ _ _ c.args.numbers.kicks c.requires.can are.before_are (omega arith))
 
 pub add_empty-requires-clause-starts : goal.add_empty-requires-clause-starts
 add_empty-requires-clause-starts c =
     let k = c.requires.leaves in
-    (c.in_ok-add_spans-2.ensures.lists k.0 (subst (AreDueBefore c.args.tree.now k.0) (sym c.deref-6.ensures.value) k.2.before_are)).are_starts
+    (c.in_ok-add_spans-2.ensures.lists k.0 (subst (AreDueBefore c.args.tree.now k.0) (sym c.deref-4.ensures.value) k.2.before_are)).are_starts
 
 pub add_empty-requires-clause-few : goal.add_empty-requires-clause-few
 add_empty-requires-clause-few c =
-    let few = lists_few _ _ _ _ _ _ _ _ c.requires.can c.requires.leaves.2 in
-    omega (arith, c.len.ensures, c.in_ok-add_leaves.ensures.count, c.in_ok-add_spans.ensures.count, c.in_ok-add_leaves-2.ensures.count, c.in_ok-add_spans-2.ensures.count, ap length c.in_ok-lists.ensures.starts, ap length c.deref.ensures.value, ap length c.deref-4.ensures.value)
+    let few = lists_few _ _ _ _ _ _ _ _ _ c.requires.can c.requires.leaves.2 in
+    let a = few.few_drift in
+    let b = few.few_due in
+    let d = few.drifts in
+    let e = few.dues_each in
+    omega (arith, c.len.ensures, c.in_ok-add_leaves.ensures.count, c.in_ok-add_spans.ensures.count, c.in_ok-add_leaves-2.ensures.count, c.in_ok-add_spans-2.ensures.count, ap length c.in_ok-lists.ensures.starts, ap length c.deref.ensures.value, ap length c.deref-3.ensures.value)
 
 pub returns : goal.returns
 returns c = λ due drift are.
     let made = c.args.tree.now in
-    let adds1 = rw (c.deref.ensures.value, c.deref-2.ensures.value) at c.in_ok-add_leaves.ensures.lists in
-    let adds2 = c.in_ok-add_spans.ensures.lists due (subst (AreDueBefore made due) (sym c.deref-3.ensures.value) are.before_are) in
-    let adds3 = rw (c.deref-4.ensures.value, c.deref-5.ensures.value) at c.in_ok-add_leaves-2.ensures.lists in
-    let adds4 = c.in_ok-add_spans-2.ensures.lists due (subst (AreDueBefore made due) (sym c.deref-6.ensures.value) are.before_are) in
+    let adds1 = rw c.deref.ensures.value at c.in_ok-add_leaves.ensures.lists in
+    let adds2 = c.in_ok-add_spans.ensures.lists due (subst (AreDueBefore made due) (sym c.deref-2.ensures.value) are.before_are) in
+    let adds3 = rw c.deref-3.ensures.value at c.in_ok-add_leaves-2.ensures.lists in
+    let adds4 = c.in_ok-add_spans-2.ensures.lists due (subst (AreDueBefore made due) (sym c.deref-4.ensures.value) are.before_are) in
     let adds5 = c.in_ok-add_empty.ensures in
     let is = edges_of-parts _ _ _ _ _ _ _ _ _ _ _ _ _ _ _ _ _ c.in_ok-lists.ensures.starts c.in_ok-lists.ensures.ends adds1 adds2 adds3 adds4 adds5 in
     subst (AreEdgeLists made c.args.spans.now due drift) (sym (c.new-2.ensures ∙ is))
-    (are_edge_lists made c.args.spans.now due drift c.args.leaves.now.spans_at.items c.args.leaves.now.drifting.items c.args.leaves.now.dues.items c.args.leaves.now.due_before.items
+    (are_edge_lists made c.args.spans.now due drift c.args.leaves.now.drifting.items c.args.leaves.now.at_drifting.items c.args.leaves.now.dues.items c.args.leaves.now.at_dues.items c.args.leaves.now.due_before.items
     c.args.numbers.densities c.args.numbers.ghosts c.args.numbers.forces c.args.numbers.kicks c.len.result are c.requires.densities c.requires.ghosts c.requires.forces c.requires.kicks (omega (arith, c.len.ensures)))

@@ -78,3 +78,7 @@ returns-clause-value c = plan_is (are_built (goal.at.returns-clause-value c).In_
 pub returns-clause-forward : goal.returns-clause-forward
 returns-clause-forward c =
     edges_forward (c.in_ok-edges.ensures c.args.due.now c.args.drift c.in_ok-leaves.ensures.leaves)
+
+pub returns-clause-rising : goal.returns-clause-rising
+returns-clause-rising c =
+    edges_rise (c.in_ok-edges.ensures c.args.due.now c.args.drift c.in_ok-leaves.ensures.leaves)
