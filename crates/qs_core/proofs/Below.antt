@@ -1,13 +1,10 @@
 -- The leaves below a cell and those of a task, in order.
-use Rattle.std.proofs.Common.{◌≡◌, ℕ, zero, suc, ◌+◌, ◌-◌, ◌<◌, ◌≤◌, ◌⊎◌, ◌↔◌, Bool, true, false, List, [], ◌∷◌, ◌++◌, Contains, Option, Some, None, refl, sym, ap, inl, inr, ◌∙◌, subst, arith, append_assoc}
+use Rattle.std.proofs.Common.{◌≡◌, ℕ, zero, suc, ◌+◌, ◌-◌, ◌<◌, ◌≤◌, ◌⊎◌, ◌↔◌, Bool, true, false, List, [], ◌∷◌, ◌++◌, Contains, Option, Some, None, sym, ap, inl, inr, ◌∙◌, subst, arith, append_assoc, append-nil}
 use Rattle.std.proofs.lemmas.Bool.{false≢true}
 use Rattle.std.specs.List.{range_with_len}
-use Rattle.std.proofs.lemmas.List.FromFn.{length-range_with_len, get_or-range_with_len}
-use Rattle.std.proofs.lemmas.List.Elements.{Contains-append_cases, Contains-append_left, Contains-append_right}
-use Rattle.qs_core.specs.Shape.{Shape, IsBelow, Touches, leaves_below, leaves_of, leaves_of_other, range_of, task_at}
-use Rattle.qs_core.specs.Listed.{IsBelowSome}
-use Rattle.qs_core.proofs.Counts.{Contains-nil}
-use Rattle.qs_core.proofs.Edges.{range-within}
+use Rattle.qs_core.specs.Shape.{Shape, IsBelow, IsBelowSome, Touches, leaves_below, leaves_of, leaves_of_other, range_of, task_at}
+use Rattle.qs_core.proofs.Counts.{Contains-append, Contains-nil}
+use Rattle.qs_core.proofs.Edges.{Contains-range, range-within}
 
 -- a test by two tests, the first of which holds or not
 pub or_first : {P Q R : Type 0} {r : Bool} → R ↔ (P ⊎ Q) → r ≡ true → ((r ≡ true) ↔ P) → (r ≡ true) ↔ R
@@ -20,10 +17,7 @@ or_second is f p q = (λ t. is.1 (inr (q.0 t)), λ h. elim (is.0 h) [ inl a ↦ 
 pub in_range : (from to x : ℕ) → Contains (range_with_len from (to - from)) x ↔ ((from ≤ x) × (x < to))
 in_range from to x = (
   λ c. let w = range-within from (to - from) x c in (omega arith, omega arith),
-  λ w.
-      let l : x - from < to - from = omega arith in
-      let e : from + (x - from) ≡ x = omega arith in
-      (x - from, subst (λ n. x - from < n) (sym (length-range_with_len from (to - from))) l, get_or-range_with_len from (to - from) (x - from) x l ∙ e),
+  λ w. Contains-range from (to - from) x w.0 (omega arith),
 )
 
 pub below_is : (shape : Shape) (cell leaf : ℕ) → Contains (leaves_below shape cell) leaf ↔ IsBelow shape leaf cell
@@ -40,15 +34,16 @@ pub touches_is : (shape : Shape) (task leaf : ℕ) → Touches shape task leaf �
 unfolding leaves_of
 touches_is shape task leaf =
     let first = leaves_below shape (task_at shape task).first in
-    let second = leaves_of_other shape (task_at shape task).second in (
-      λ t. elim (Contains-append_cases first second leaf t) [
+    let second = leaves_of_other shape (task_at shape task).second in
+    let is = Contains-append first second leaf in (
+      λ t. elim (is.0 t) [
         | inl a ↦ inl ((below_is shape (task_at shape task).first leaf).0 a)
         | inr b ↦ inr ((below_other_is shape (task_at shape task).second leaf).0 b)
       ],
-      λ s. elim s [
-        | inl a ↦ Contains-append_left first second leaf ((below_is shape (task_at shape task).first leaf).1 a)
-        | inr b ↦ Contains-append_right first second leaf ((below_other_is shape (task_at shape task).second leaf).1 b)
-      ],
+      λ s. is.1 (elim s [
+        | inl a ↦ inl ((below_is shape (task_at shape task).first leaf).1 a)
+        | inr b ↦ inr ((below_other_is shape (task_at shape task).second leaf).1 b)
+      ]),
     )
 
 -- one more number
@@ -64,14 +59,10 @@ pub record IsListing (from to at : ℕ) (before items : List ℕ) : Type 0 where
   pub few : at - from ≤ to - from
 
 pub listing_none : (from to : ℕ) (before : List ℕ) → IsListing from to from before before
-listing_none from to before = record { listed = subst (λ n. before ≡ before ++ range_with_len from n) zero' (search_nil before); few = omega arith }
+listing_none from to before = record { listed = subst (λ n. before ≡ before ++ range_with_len from n) zero' (sym (append-nil before)); few = omega arith }
   where
     zero' : 0 ≡ from - from
     zero' = omega arith
-
-    search_nil : (xs : List ℕ) → xs ≡ xs ++ []
-    search_nil [] = refl
-    search_nil (x ∷ xs) = ap (λ (ys : List ℕ). x ∷ ys) (search_nil xs)
 
 pub listing_more : (from to at : ℕ) (before items new : List ℕ) → from ≤ at → at < to → new ≡ items ++ at ∷ [] → IsListing from to at before items → IsListing from to (at + 1) before new
 listing_more from to at before items new l m e is =

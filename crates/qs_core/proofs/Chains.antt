@@ -10,7 +10,8 @@ use Rattle.qs_core.specs.Sound.{AreChains, IsMarked, IsView, locks_of, raises_of
 use Rattle.qs_core.proofs.Ancestors.{raised_once}
 use Rattle.qs_core.proofs.Edges.{part-le-range}
 use Rattle.qs_core.proofs.Totals.{few_for_places, sum_by-turned, sum_by-within}
-use Rattle.qs_core.proofs.Counts.{Contains-from_get, Contains-nil, get_from_Contains, count_by-take_suc, Contains-later, counted, each_cons, one_if, one_if-same, share-le, sum_by-set_view}
+use Rattle.qs_core.proofs.Counts.{Contains-first, Contains-from_get, Contains-later, Contains-nil, count_by-take_suc, counted, each_cons, get_from_Contains, one_if, one_if-same, share-le}
+use Rattle.qs_core.proofs.Views.{part-le-sum_by, sum_by-views}
 
 -- how often some chains lock and raise a cell
 abbrev pub lock_count : ℕ → List Chain → ℕ
@@ -97,6 +98,12 @@ first_and_rest d (x ∷ xs) n = refl
 pub newest_and_rest : (view : View) → view.chains ≢ [] → view.chains ≡ newest view ∷ rest view.chains
 newest_and_rest view n = first_and_rest no_chain view.chains n
 
+-- the newest is of a cell, with no more raises than there are ancestors
+pub newest_is : (shape : Shape) (core : Core) (view : View) → AreChains shape core view → view.chains ≢ []
+    → ((newest view).cell < length shape.parents) × ((newest view).raises ≤ length (ancestors shape (newest view).cell))
+newest_is shape core view chains some =
+    chains.cells (newest view) (subst (λ cs. Contains cs (newest view)) (sym (newest_and_rest view some)) (Contains-first (newest view) (rest view.chains)))
+
 -- another chain of the same cell in the place of the newest locks as it did
 pub locks_changed : (c : ℕ) (old new : Chain) (older : List Chain) → new.cell ≡ old.cell → lock_count c (new ∷ older) ≡ lock_count c (old ∷ older)
 locks_changed c old new older same =
@@ -118,18 +125,18 @@ raises_changed shape c old new older same more l =
 -- a change of one view, counted
 pub locks_change : (cell : ℕ) (views : List View) (seat : ℕ) (view : View) → seat < length views
     → locks_of cell (set views seat view) + lock_count cell (view_at views seat).chains ≡ locks_of cell views + lock_count cell view.chains
-locks_change cell views seat view l = sum_by-set_view (λ (v : View). lock_count cell v.chains) views seat view l
+locks_change cell views seat view l = sum_by-views (λ (v : View). lock_count cell v.chains) views seat view l
 
 pub raises_change : (shape : Shape) (cell : ℕ) (views : List View) (seat : ℕ) (view : View) → seat < length views
     → raises_of shape cell (set views seat view) + raise_count shape cell (view_at views seat).chains ≡ raises_of shape cell views + raise_count shape cell view.chains
-raises_change shape cell views seat view l = sum_by-set_view (λ (v : View). raise_count shape cell v.chains) views seat view l
+raises_change shape cell views seat view l = sum_by-views (λ (v : View). raise_count shape cell v.chains) views seat view l
 
 -- a chain locks its cell
 pub locks_its_cell : (core : Core) (seat : ℕ) (view : View) (chain : Chain) (cell : ℕ) → IsView core seat view → Contains view.chains chain → chain.cell ≡ cell
     → 0 < locks_of cell core.views
 locks_its_cell core seat view chain cell v h e =
     let a = counted (λ (c : Chain). c.cell) cell view.chains chain h e in
-    let b = share-le (λ (v : View). lock_count cell v.chains) core.views view (Contains-from_get core.views seat view v.is) in
+    let b = part-le-sum_by (λ (v : View). lock_count cell v.chains) core seat view v in
     omega arith
 
 -- a front of some ancestors has the one at each of its places
@@ -146,7 +153,7 @@ pub raises_its_ancestors : (shape : Shape) (core : Core) (seat : ℕ) (view : Vi
 raises_its_ancestors shape core seat view chain k v h l m =
     let a = in_front (ancestors shape chain.cell) k chain.raises l m in
     let b = share-le (λ (c : Chain). count_by (λ a. eqb a (ancestor_at shape chain k)) (take c.raises (ancestors shape c.cell))) view.chains chain h in
-    let c = share-le (λ (v : View). raise_count shape (ancestor_at shape chain k) v.chains) core.views view (Contains-from_get core.views seat view v.is) in
+    let c = part-le-sum_by (λ (v : View). raise_count shape (ancestor_at shape chain k) v.chains) core seat view v in
     omega arith
 
 -- chains raise a cell no more often than they lock the cells, each raising it once at most

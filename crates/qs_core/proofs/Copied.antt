@@ -1,21 +1,14 @@
 -- Lists copied one element after another, and the opening state made of such lists.
-use Rattle.std.proofs.Common.{◌≡◌, ℕ, zero, suc, ◌+◌, ◌<◌, ◌≤◌, List, [], ◌∷◌, ◌++◌, length, get_or, take, map, replicate, slice_get, Option, None, refl, sym, ap, ap₂, subst, ◌∙◌, arith, append_assoc}
+use Rattle.std.proofs.Common.{◌≡◌, ℕ, suc, ◌+◌, ◌<◌, ◌≤◌, List, [], ◌∷◌, ◌++◌, length, take, map, replicate, slice_get, Option, None, sym, ap, ap₂, subst, ◌∙◌, arith, append_assoc, append-nil}
 use Rattle.std.specs.List.{range_with_len}
 use Rattle.std.proofs.lemmas.List.{take_more, take_all, length-replicate, replicate-append-replicate}
 use Rattle.std.proofs.lemmas.List.FromFn.{map-range_with_len_more}
 use Rattle.qs_core.specs.declared.event.Note.{Note}
-use Rattle.qs_core.specs.Shape.{Shape, IsShape, TaskShape, edges_into, or_else}
+use Rattle.qs_core.specs.Shape.{Shape, IsShape, TaskShape, edges_into, or_else, shape_of}
 use Rattle.qs_core.specs.Core.{View, empty_view, opening}
-use Rattle.qs_core.specs.Machine.{IsMachine, made}
-use Rattle.qs_core.specs.Listed.{shape_of}
-use Rattle.qs_core.specs.States.{machine_of}
+use Rattle.qs_core.specs.Machine.{IsMachine, machine_of, made}
 use Rattle.qs_core.proofs.Opening.{opening_is_sound}
-
--- an element, or else a default
-pub or_else-get_or : {X : Type 0} (d : X) (xs : List X) (i : ℕ) → or_else d (slice_get xs i) ≡ get_or xs i d
-or_else-get_or d [] i = refl
-or_else-get_or d (x ∷ xs) zero = refl
-or_else-get_or d (x ∷ xs) (suc i) = or_else-get_or d xs i
+use Rattle.qs_core.proofs.Views.{or_else-get_or}
 
 -- one more element, and all
 pub copied_more : {X : Type 0} (d : X) (xs items new : List X) (i : ℕ) (x : X) → i < length xs → x ≡ or_else d (slice_get xs i) → new ≡ items ++ x ∷ [] → items ≡ take i xs
@@ -26,10 +19,6 @@ copied_more d xs items new i x l e n is =
 
 pub copied_all : {X : Type 0} (xs items : List X) (i : ℕ) → length xs ≤ i → items ≡ take i xs → items ≡ xs
 copied_all xs items i l is = is ∙ take_all i xs l
-
-append-nil : {X : Type 0} (xs : List X) → xs ++ [] ≡ xs
-append-nil [] = refl
-append-nil {X} (x ∷ xs) = ap (λ (ys : List X). x ∷ ys) (append-nil xs)
 
 -- the words of the cells, of the leaves and of the first tasks
 abbrev pub words_to : Shape → ℕ → List ℕ

@@ -13,8 +13,7 @@ use Rattle.qs_core.specs.Runs.{ReturnsWork}
 use Rattle.qs_core.specs.Laws.{StepsChangeDone}
 use Rattle.qs_core.specs.Held.{RunsOn}
 use Rattle.qs_core.proofs.Claims.{claimed_stays}
-use Rattle.qs_core.proofs.Counts.{Contains-nil, Contains-without, without_keeps}
-use Rattle.qs_core.proofs.Edges.{Contains-from_count, count-pos}
+use Rattle.qs_core.proofs.Counts.{Contains-from_count, Contains-nil, Contains-without, count-pos, without_keeps}
 use Rattle.qs_core.proofs.LocksLock.{with_lock}
 use Rattle.qs_core.proofs.Played.{runs_some}
 use Rattle.qs_core.proofs.RunningClaim.{claiming}

@@ -6,8 +6,9 @@ use Rattle.qs_core.specs.Shape.{Shape, IsShape, AreApart, IsBelow, ancestors}
 use Rattle.qs_core.specs.Core.{Chain, Core, IsComplete, Owns, View}
 use Rattle.qs_core.specs.Sound.{AreChains, IsExclusive, IsMarked, IsSound, IsView, OwnsAt, locks_of}
 use Rattle.qs_core.specs.Laws.{SoundIsExclusive}
-use Rattle.qs_core.proofs.Counts.{Contains-from_get, counted, get_from_Contains, one_if, one_if-same, same_place, share-le}
+use Rattle.qs_core.proofs.Counts.{Contains-from_get, counted, get_from_Contains, one_if, one_if-same, same_place}
 use Rattle.qs_core.proofs.Chains.{IsSoundCells, lock_count, locks_its_cell}
+use Rattle.qs_core.proofs.Views.{part-le-sum_by}
 
 -- a raise of a complete chain isn't marked
 pub complete_unmarked : (shape : Shape) (chain : Chain) (k : ℕ) → IsComplete shape chain → IsMarked chain k → ⊥
@@ -31,7 +32,7 @@ module _ (shape : Shape) (core : Core) (s : IsSoundCells shape core) where
       (counted (λ (c : Chain). c.cell) cell o.view.chains o.chain at o.of_cell) (counted (λ (c : Chain). c.cell) cell o'.view.chains o'.chain at' o'.of_cell)
       (s.one_lock cell) in
       let views : o'.view ≡ o.view = same_Some o'.view o.view (sym o'.is_view.is ∙ ap (slice_get core.views) (sym seats) ∙ o.is_view.is) in
-      let few = share-le (λ (v : View). lock_count cell v.chains) core.views o.view (Contains-from_get core.views seat o.view o.is_view.is) in
+      let few = part-le-sum_by (λ (v : View). lock_count cell v.chains) core seat o.view o.is_view in
       let one = s.one_lock cell in
       let mine = one_if-same o.chain.cell cell o.of_cell in
       let other = one_if-same o'.chain.cell cell o'.of_cell in

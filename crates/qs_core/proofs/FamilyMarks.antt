@@ -1,18 +1,13 @@
 -- What marking a task adds to the tasks that three marks say are done.
-use Rattle.std.proofs.Common.{◌≡◌, ◌⊎◌, ◌↔◌, ℕ, Bool, true, false, List, [], ◌∷◌, ◌++◌, Contains, sym, inl, inr, arith}
-use Rattle.std.proofs.lemmas.List.Elements.{Contains-append_cases, Contains-append_left, Contains-append_right}
+use Rattle.std.proofs.Common.{◌≡◌, ◌⊎◌, ◌↔◌, ℕ, Bool, true, false, [], ◌∷◌, ◌++◌, Contains, sym, inl, inr, arith}
 use Rattle.qs_core.specs.Family.{done_by, where_set}
-use Rattle.qs_core.proofs.Counts.{Contains-nil}
-use Rattle.qs_core.proofs.FamilyShape.{only}
-
-in_append : (xs ys : List ℕ) (t : ℕ) → Contains (xs ++ ys) t ↔ (Contains xs t ⊎ Contains ys t)
-in_append xs ys t = (Contains-append_cases xs ys t, λ s. elim s [ inl h ↦ Contains-append_left xs ys t h | inr h ↦ Contains-append_right xs ys t h ])
+use Rattle.qs_core.proofs.Counts.{Contains-append, Contains-nil, only}
 
 -- the one mark or the other or the third
 in_marks : (a b c : Bool) (t : ℕ) → Contains (done_by a b c) t ↔ ((Contains (where_set a 0) t ⊎ Contains (where_set b 1) t) ⊎ Contains (where_set c 2) t)
 in_marks a b c t =
-    let all = in_append (where_set a 0 ++ where_set b 1) (where_set c 2) t in
-    let two = in_append (where_set a 0) (where_set b 1) t in (
+    let all = Contains-append (where_set a 0 ++ where_set b 1) (where_set c 2) t in
+    let two = Contains-append (where_set a 0) (where_set b 1) t in (
       λ h. elim (all.0 h) [ inl g ↦ inl (two.0 g) | inr g ↦ inr g ],
       λ s. all.1 (elim s [ inl g ↦ inl (two.1 g) | inr g ↦ inr g ]),
     )

@@ -6,8 +6,7 @@ use Rattle.std.proofs.lemmas.List.Sums.{count_by-le-length, sum_by-cons}
 use Rattle.qs_core.specs.Shape.{Shape, AreApart, IsShape, IsCellShape, IsTaskShape, Precedes, Touches, CellContains, HaveOwnLeaves, ancestors, leaves_of, range_of}
 use Rattle.qs_core.specs.Blocks.{AreAdded, AreReady, IsAdded, IsReady, first_leaves, second_leaves}
 use Rattle.qs_core.specs.Family.{family, task_0, tasks_where}
-use Rattle.qs_core.proofs.Counts.{Contains-cons_cases, Contains-nil, one_if-le, one_if-other}
-use Rattle.qs_core.proofs.Edges.{count-none}
+use Rattle.qs_core.proofs.Counts.{Contains-nil, count-zero, either, one_if-le, one_if-other, only}
 use Rattle.qs_core.proofs.Events.{path-up}
 
 -- cell 0 contains every cell, and cell 1 all but cell 0
@@ -65,14 +64,6 @@ cells has_tasks has_third (suc (suc (suc zero))) l = record {
 }
 cells has_tasks has_third (suc (suc (suc (suc cell)))) l = absurd (omega arith)
 
--- a list of one element
-pub only : (x y : ℕ) → Contains (x ∷ []) y → x ≡ y
-only x y c = elim (Contains-cons_cases x [] y c) [ inl e ↦ e | inr n ↦ absurd (Contains-nil y n) ]
-
--- a list of two elements
-either : (x y z : ℕ) → Contains (x ∷ y ∷ []) z → (x ≡ z) ⊎ (y ≡ z)
-either x y z c = elim (Contains-cons_cases x (y ∷ []) z c) [ inl e ↦ inl e | inr h ↦ inr (only y z h) ]
-
 -- the successors of the first two tasks
 after_0 : (has_third : Bool) (after : ℕ) → Contains (task_0 has_third).successors after → (0 < after) × (after < length (tasks_where true has_third))
 after_0 false after h = subst (λ x. (0 < x) × (x < 2)) (only 1 after h) (omega arith, omega arith)
@@ -87,7 +78,7 @@ both_once x y z n =
     let a = sum_by-cons (λ s. cond (eqb s z) 1 0) x (y ∷ []) in
     let b = count_by-le-length (λ s. eqb s z) (y ∷ []) in
     elim (cases_eq x z) [
-      | inl e ↦ let none = count-none (y ∷ []) z (λ c. n (e ∙ sym (only y z c))) in let t = one_if-le x z in omega arith
+      | inl e ↦ let none = count-zero (y ∷ []) z (λ c. n (e ∙ sym (only y z c))) in let t = one_if-le x z in omega arith
       | inr m ↦ let t = one_if-other x z m in omega arith
     ]
 

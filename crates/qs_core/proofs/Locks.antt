@@ -6,8 +6,8 @@ use Rattle.qs_core.specs.Shape.{Shape, IsShape}
 use Rattle.qs_core.specs.Core.{Chain, Core, View, cell_word, empty_view, leaf_word, view_at, word_count}
 use Rattle.qs_core.specs.Steps.{ancestor_at}
 use Rattle.qs_core.specs.Sound.{AreChains, IsOut, IsSound, IsView, locks_of, outs_of, raises_of}
-use Rattle.qs_core.proofs.Counts.{slice_get-set_cases, view_at-get_or, view_at-is}
 use Rattle.qs_core.proofs.Chains.{raises_few, AreListed, AreListed-still, IsSoundCells, StaysFree, from_listed, listed, lock_count, locks_change, raise_count, raises_change}
+use Rattle.qs_core.proofs.Views.{IsView-view_at, slice_get-set_cases, view_at-get_or}
 
 -- what a sound state keeps of its words, locks and leaves
 pub record IsSoundLocks (shape : Shape) (core : Core) : Type 0 where
@@ -144,7 +144,7 @@ cells_kept shape core seat view word value l same apart s =
     let raises : (cell : ℕ) → raises_of shape cell (set core.views seat view) ≡ raises_of shape cell core.views =
     λ cell. same_raises shape cell core.views seat view l (ap (raise_count shape cell) same) in
     let free : (chains : List Chain) → StaysFree shape core.views (set core.views seat view) chains = λ chains chain k h m e. locks (ancestor_at shape chain k) ∙ e in
-    let old = listed shape core (view_at core.views seat) (s.chains seat (view_at core.views seat) (record { is = view_at-is core.views seat l })) in
+    let old = listed shape core (view_at core.views seat) (s.chains seat (view_at core.views seat) (IsView-view_at core seat l)) in
     record {
       cell_words = λ cell h.
           let kept = get_or-set_other core.words word (1 + cell) value 0 (apart cell h) in

@@ -1,17 +1,19 @@
 -- Steps that fetch and return a leaf keep the laws of the locks.
-use Rattle.std.proofs.Common.{◌≡◌, ℕ, ◌+◌, ◌<◌, List, [], ◌∷◌, length, get_or, set, slice_get, Contains, Option, Some, None, refl, sym, ap, subst, inl, inr, ◌∙◌, arith}
+use Rattle.std.proofs.Common.{◌≡◌, ℕ, ◌+◌, ◌<◌, List, ◌∷◌, length, get_or, set, slice_get, Contains, Option, Some, None, refl, sym, ap, subst, inl, inr, ◌∙◌, arith}
 use Rattle.std.proofs.lemmas.Bool.{cases_eq}
 use Rattle.std.proofs.lemmas.Option.{none-some, same_Some, slice_get-get_or}
 use Rattle.std.proofs.lemmas.List.Sums.{sum_by-cons, sum_by-le}
 use Rattle.qs_core.specs.declared.event.Step.TheVariants.{Fetch, Return}
 use Rattle.qs_core.specs.Shape.{Shape, IsShape}
 use Rattle.qs_core.specs.Core.{Core, Running, View, leaf_word, view_at}
-use Rattle.qs_core.specs.Steps.{CanFetch, CanReturn, MayFetch, after_return, stepped, unless_over, without}
+use Rattle.qs_core.specs.Steps.{CanFetch, CanReturn, MayFetch, after_return, stepped, without}
 use Rattle.qs_core.specs.Sound.{IsOut, IsView, outs_of}
-use Rattle.qs_core.proofs.Counts.{Contains-without, count_by-without, count_none, counted, each_cons, one_if, one_if-other, one_if-same, view_at-is, without_keeps}
+use Rattle.qs_core.proofs.Counts.{Contains-without, count-pos, count-zero, count_by-without, each_cons, one_if, one_if-other, one_if-same, without_keeps}
 use Rattle.qs_core.proofs.Exclusive.{one_seat_each}
 use Rattle.qs_core.proofs.Locks.{IsSoundLocks, cells_kept, cells_of_locks, joined, leaves_of_locks}
 use Rattle.qs_core.proofs.Outs.{above_by_chains, leaves_moved, out_by_chains, out_count, outs_change}
+use Rattle.qs_core.proofs.Views.{IsView-view_at}
+use Rattle.qs_core.proofs.Running.{IsLeft-from}
 
 -- the view with a leaf out
 abbrev with_leaf : View → ℕ → View
@@ -28,7 +30,7 @@ module _ (shape : Shape) (core : Core) (seat leaf : ℕ) (is : IsShape shape) (l
   after = set core.views seat new_view
 
   is_view : IsView core seat view
-  is_view = record { is = view_at-is core.views seat l }
+  is_view = IsView-view_at core seat l
 
   -- no seat has the leaf out: this one has it home, and another would own a cell above it
   not_out : (other : ℕ) (theirs : View) → IsView core other theirs → Contains theirs.out leaf → ⊥
@@ -43,7 +45,7 @@ module _ (shape : Shape) (core : Core) (seat leaf : ℕ) (is : IsShape shape) (l
       ]
 
   none_have_it : (other : ℕ) (theirs : View) → IsView core other theirs → out_count leaf theirs.out ≡ 0
-  none_have_it other theirs v = count_none (λ x. x) leaf theirs.out (λ x h e. not_out other theirs v (subst (Contains theirs.out) e h))
+  none_have_it other theirs v = count-zero theirs.out leaf (not_out other theirs v)
 
   none_out : outs_of leaf core.views ≡ 0
   none_out =
@@ -79,17 +81,11 @@ module _ (shape : Shape) (core : Core) (seat leaf : ℕ) (is : IsShape shape) (l
       (leaves_moved shape core seat new_view leaf 1 s.words l can.is_leaf (sym one_after) (let a = one_after in omega arith)
       (λ c n. let a = view_outs c in let b = one_if-other leaf c (λ q. n (sym q)) in omega arith) fetched_out (leaves_of_locks shape core s))
 
--- what is left of a running task that isn't over
-left_over : (task : ℕ) (leaves successors : List ℕ) (r : Running) → unless_over task leaves successors ≡ Some r → leaves ≡ r.leaves
-left_over task [] [] r e = absurd (none-some r e)
-left_over task [] (x ∷ xs) r e = ap (λ (q : Running). q.leaves) (same_Some (record { task = task; leaves = []; successors = x ∷ xs }) r e)
-left_over task (y ∷ ys) xs r e = ap (λ (q : Running). q.leaves) (same_Some (record { task = task; leaves = y ∷ ys; successors = xs }) r e)
-
 -- another leaf that was left to return still is
 left_after : (leaf c : ℕ) (o : Option Running) → (c ≡ leaf → ⊥) → ((r : Running) → o ≡ Some r → Contains r.leaves c) → (r : Running) → after_return o leaf ≡ Some r → Contains r.leaves c
 left_after leaf c None n left r e = absurd (none-some r e)
 left_after leaf c (Some q) n left r e =
-    subst (λ xs. Contains xs c) (left_over q.task (without leaf q.leaves) q.successors r e) (without_keeps leaf q.leaves c (left q refl) n)
+    subst (λ xs. Contains xs c) (ap (λ (x : Running). x.leaves) (IsLeft-from q.task (without leaf q.leaves) q.successors r e).is) (without_keeps leaf q.leaves c (left q refl) n)
 
 -- the view with a leaf home again
 abbrev without_leaf : View → ℕ → View
@@ -103,14 +99,14 @@ module _ (shape : Shape) (core : Core) (seat leaf : ℕ) (l : seat < length core
   returned = without_leaf holder leaf
 
   is_holder : IsView core seat holder
-  is_holder = record { is = view_at-is core.views seat l }
+  is_holder = IsView-view_at core seat l
 
   -- it was out once in all, here
   none_after : outs_of leaf (set core.views seat returned) ≡ 0
   none_after =
       let a = outs_change leaf core.views seat returned l in
-      let none = count_none (λ x. x) leaf returned.out (λ x h e. (Contains-without leaf holder.out x h).1 e) in
-      let some = counted (λ x. x) leaf holder.out leaf can.out refl in
+      let none = count-zero returned.out leaf (λ h. (Contains-without leaf holder.out leaf h).1 refl) in
+      let some = count-pos holder.out leaf can.out in
       let one = s.one_out leaf in
       omega arith
 

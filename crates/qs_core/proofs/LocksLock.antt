@@ -7,10 +7,11 @@ use Rattle.qs_core.specs.Shape.{Shape, ancestors}
 use Rattle.qs_core.specs.Core.{Chain, Core, View, cell_word, view_at}
 use Rattle.qs_core.specs.Steps.{CanLock, ancestor_at, new_chain, stepped}
 use Rattle.qs_core.specs.Sound.{IsView, locks_of, raises_of}
-use Rattle.qs_core.proofs.Counts.{one_if, one_if-other, one_if-same, view_at-is}
+use Rattle.qs_core.proofs.Counts.{one_if, one_if-other, one_if-same}
 use Rattle.qs_core.proofs.Chains.{AreListed-lock, AreListed-still, StaysFree, listed, lock_count, locks_change, raise_count, raises_change, raises_its_ancestors}
 use Rattle.qs_core.proofs.Locks.{CellChange, IsSoundLocks, by_test, cells_moved, cells_of_locks, joined, leaves_of_locks, moved}
 use Rattle.qs_core.proofs.Outs.{leaves_kept_none}
+use Rattle.qs_core.proofs.Views.{IsView-view_at}
 
 -- a view with the chain of a cell just locked before its others
 abbrev pub with_lock : View → ℕ → View
@@ -64,7 +65,7 @@ module _ (shape : Shape) (core : Core) (seat cell : ℕ) (l : seat < length core
     other_raises = λ c n. raises_same shape cell c view.chains;
     still = still free;
     new =
-        let v : IsView core seat view = record { is = view_at-is core.views seat l } in
+        let v : IsView core seat view = IsView-view_at core seat l in
         AreListed-lock shape after (new_chain cell) view.chains refl can.is_cell can.room.few can.room.complete
         (AreListed-still shape core.views after view.chains (still free seat view v) (listed shape core view (s.chains seat view v)));
   }

@@ -6,10 +6,11 @@ use Rattle.qs_core.specs.Core.{Chain, Core, View, cell_word, view_at}
 use Rattle.qs_core.specs.Steps.{CanLower, ancestor_at, lowered_chain, newest, rest, stepped, with_newest}
 use Rattle.qs_core.specs.Sound.{IsMarked, IsView, locks_of, raises_of}
 use Rattle.qs_core.proofs.Ancestors.{ancestor_is_cell}
-use Rattle.qs_core.proofs.Counts.{Contains-first, one_if, one_if-other, one_if-same, view_at-is}
+use Rattle.qs_core.proofs.Counts.{Contains-first, one_if, one_if-other, one_if-same}
 use Rattle.qs_core.proofs.Chains.{AreListed, AreListed-change, AreListed-still, listed, lock_count, locks_changed, newest_and_rest, raise_count, raises_change, raises_changed}
 use Rattle.qs_core.proofs.Locks.{CellChange, IsSoundLocks, cells_moved, cells_of_locks, joined, leaves_of_locks, same_locks, two_less, word_fits}
 use Rattle.qs_core.proofs.Outs.{leaves_kept_none}
+use Rattle.qs_core.proofs.Views.{IsView-view_at}
 
 module _ (shape : Shape) (core : Core) (seat : ℕ) (is : IsShape shape) (l : seat < length core.views) (s : IsSoundLocks shape core)
     (can : CanLower (view_at core.views seat)) where
@@ -38,7 +39,7 @@ module _ (shape : Shape) (core : Core) (seat : ℕ) (is : IsShape shape) (l : se
   split = newest_and_rest view can.some
 
   is_view : IsView core seat view
-  is_view = record { is = view_at-is core.views seat l }
+  is_view = IsView-view_at core seat l
 
   before : AreListed shape core.views (old ∷ rest view.chains)
   before = subst (AreListed shape core.views) split (listed shape core view (s.chains seat view is_view))

@@ -7,10 +7,11 @@ use Rattle.qs_core.specs.Core.{Chain, Core, Owns, View, cell_word, view_at}
 use Rattle.qs_core.specs.Steps.{CanRaise, ancestor_at, newest, raised_chain, rest, stepped, with_newest}
 use Rattle.qs_core.specs.Sound.{IsMarked, IsOut, IsView, locks_of, raises_of}
 use Rattle.qs_core.proofs.Ancestors.{ancestor_is_cell}
-use Rattle.qs_core.proofs.Counts.{Contains-cons_cases, Contains-first, Contains-later, one_if, one_if-other, one_if-same, view_at-is}
+use Rattle.qs_core.proofs.Counts.{Contains-cons_cases, Contains-first, Contains-later, one_if, one_if-other, one_if-same}
 use Rattle.qs_core.proofs.Chains.{AreListed, AreListed-change, AreListed-still, StaysFree, listed, lock_count, locks_changed, newest_and_rest, raise_count, raises_change, raises_changed}
 use Rattle.qs_core.proofs.Locks.{CellChange, IsSoundLocks, cells_moved, cells_of_locks, joined, leaves_of_locks, same_locks, word_fits}
 use Rattle.qs_core.proofs.Outs.{leaves_kept}
+use Rattle.qs_core.proofs.Views.{IsView-view_at}
 
 module _ (shape : Shape) (core : Core) (seat : ℕ) (is : IsShape shape) (l : seat < length core.views) (s : IsSoundLocks shape core)
     (can : CanRaise shape (view_at core.views seat)) where
@@ -39,7 +40,7 @@ module _ (shape : Shape) (core : Core) (seat : ℕ) (is : IsShape shape) (l : se
   split = newest_and_rest view can.some
 
   is_view : IsView core seat view
-  is_view = record { is = view_at-is core.views seat l }
+  is_view = IsView-view_at core seat l
 
   object_is_cell : object < length shape.parents
   object_is_cell = ancestor_is_cell shape is old.cell old.raises can.not_all

@@ -4,9 +4,10 @@ use Rattle.qs_core.specs.declared.event.Step.TheVariants.{Claim, Release}
 use Rattle.qs_core.specs.Shape.{Shape, leaves_of, task_at}
 use Rattle.qs_core.specs.Core.{Core, Running, View, claimed_word, task_word, view_at}
 use Rattle.qs_core.specs.Steps.{CanClaim, CanRelease, after_release, next_successor, stepped}
-use Rattle.qs_core.proofs.Counts.{Contains-nil, view_at-is}
+use Rattle.qs_core.proofs.Counts.{Contains-nil}
 use Rattle.qs_core.proofs.Locks.{IsSoundLocks, by_test, cells_kept, cells_of_locks, joined, leaves_of_locks}
 use Rattle.qs_core.proofs.Outs.{leaves_kept, leaves_kept_none}
+use Rattle.qs_core.proofs.Views.{IsView-view_at}
 
 -- the view with another running task
 abbrev with_running : View → Option Running → View
@@ -30,7 +31,7 @@ claim_kept shape core seat task l s can =
 none_out_at_release : (shape : Shape) (core : Core) (seat : ℕ) → seat < length core.views → IsSoundLocks shape core → CanRelease (view_at core.views seat)
     → (leaf : ℕ) → Contains (view_at core.views seat).out leaf → ⊥
 none_out_at_release shape core seat l s can leaf h =
-    let o = s.outs seat (view_at core.views seat) leaf (record { is = view_at-is core.views seat l }) h in
+    let o = s.outs seat (view_at core.views seat) leaf (IsView-view_at core seat l) h in
     Contains-nil leaf (subst (λ xs. Contains xs leaf) can.returned (o.left can.running can.runs))
 
 pub release_kept : (shape : Shape) (core : Core) (seat : ℕ) → seat < length core.views → IsSoundLocks shape core → CanRelease (view_at core.views seat)

@@ -6,10 +6,11 @@ use Rattle.qs_core.specs.Shape.{Shape, IsShape, ancestors}
 use Rattle.qs_core.specs.Core.{Chain, Core, View, cell_word, view_at}
 use Rattle.qs_core.specs.Steps.{CanUnlock, ancestor_at, newest, rest, stepped}
 use Rattle.qs_core.specs.Sound.{IsView, locks_of, raises_of}
-use Rattle.qs_core.proofs.Counts.{Contains-first, one_if, one_if-other, one_if-same, view_at-is}
+use Rattle.qs_core.proofs.Counts.{Contains-first, one_if, one_if-other, one_if-same}
 use Rattle.qs_core.proofs.Chains.{AreListed, AreListed-rest, AreListed-still, StaysFree, listed, lock_count, locks_change, newest_and_rest, raise_count, raises_change}
 use Rattle.qs_core.proofs.Locks.{CellChange, IsSoundLocks, cells_moved, cells_of_locks, joined, leaves_of_locks, one_less, word_fits}
 use Rattle.qs_core.proofs.Outs.{leaves_kept_none}
+use Rattle.qs_core.proofs.Views.{IsView-view_at}
 
 -- the view without its newest chain
 abbrev without_newest : View → View
@@ -36,7 +37,7 @@ module _ (shape : Shape) (core : Core) (seat : ℕ) (is : IsShape shape) (l : se
   split = newest_and_rest view can.some
 
   is_view : IsView core seat view
-  is_view = record { is = view_at-is core.views seat l }
+  is_view = IsView-view_at core seat l
 
   before : AreListed shape core.views (old ∷ rest view.chains)
   before = subst (AreListed shape core.views) split (listed shape core view (s.chains seat view is_view))

@@ -5,7 +5,8 @@ use Rattle.std.proofs.lemmas.Bool.{ne_eqb}
 use Rattle.std.proofs.lemmas.List.{length-replicate, get_or-replicate, get_or_append_left, get_or-append_right, replicate-append-replicate}
 use Rattle.std.proofs.lemmas.List.Elements.{All-from_get_or}
 use Rattle.std.proofs.lemmas.List.FromFn.{length-map-range_with_len, get_or-map-range_with_len}
-use Rattle.std.proofs.lemmas.List.Sums.{sum_by-le, sum_by-cons}
+use Rattle.std.proofs.lemmas.List.Folds.{sum_by-replicate}
+use Rattle.std.proofs.lemmas.List.Sums.{sum_by-le}
 use Rattle.std.proofs.lemmas.Option.{slice_get_within, get_or_from_slice_get, none-some}
 use Rattle.qs_core.specs.Shape.{Shape, TaskShape, IsShape, edges_into, task_at, no_task, ancestors}
 use Rattle.qs_core.specs.Core.{Chain, View, Running, empty_view, opening, cell_word, leaf_word, task_word, word_count, claimed_word}
@@ -14,11 +15,6 @@ use Rattle.qs_core.specs.Laws.{OpeningIsSound}
 use Rattle.qs_core.proofs.Chains.{empty_chains}
 use Rattle.qs_core.proofs.Edges.{sum_by-places, sum_by-range_same}
 use Rattle.qs_core.proofs.Views.{task_at-get_or}
-
--- a sum of nothing
-sum_by-replicate : {X : Type 0} (f : X → ℕ) (n : ℕ) (x : X) → f x ≡ 0 → sum_by f (replicate n x) ≡ 0
-sum_by-replicate f zero x e = refl
-sum_by-replicate f (suc n) x e = let a = sum_by-cons f x (replicate n x) in let ih = sum_by-replicate f n x e in a ∙ omega arith
 
 -- a seat's view at the opening
 view_is_empty : (shape : Shape) (seats seat : ℕ) (view : View) → IsView (opening shape seats) seat view → empty_view ≡ view
@@ -100,7 +96,7 @@ unclaimed-all shape seats task s =
 unreleased-all : (shape : Shape) (seats task : ℕ) → IsShape shape → unreleased shape (opening shape seats) task ≡ edges_into shape task
 unreleased-all shape seats task s =
     let a = unclaimed-all shape seats task s in
-    let b = sum_by-replicate (λ (v : View). left_in v.running task) seats empty_view refl in
+    let b = sum_by-replicate (λ (v : View). left_in v.running task) seats empty_view in
     omega arith
 
 -- no view of the opening has a chain
@@ -114,18 +110,18 @@ opening_is_sound shape seats s = record {
   seat_word = refl;
   cell_words = λ cell l.
       let w = word-zero shape seats cell (omega arith) in
-      let a = sum_by-replicate (λ (v : View). count_by (λ (c : Chain). c.cell == cell) v.chains) seats empty_view refl in
-      let b = sum_by-replicate (λ (v : View). sum_by (λ (c : Chain). count_by (λ a. a == cell) (take c.raises (ancestors shape c.cell))) v.chains) seats empty_view refl in
+      let a = sum_by-replicate (λ (v : View). count_by (λ (c : Chain). c.cell == cell) v.chains) seats empty_view in
+      let b = sum_by-replicate (λ (v : View). sum_by (λ (c : Chain). count_by (λ a. a == cell) (take c.raises (ancestors shape c.cell))) v.chains) seats empty_view in
       let e : cell_word shape cell ≡ suc cell = omega arith in
       ap (slice_index (opening shape seats).words) e ∙ w ∙ omega arith;
-  one_lock = λ cell. let a = sum_by-replicate (λ (v : View). count_by (λ (c : Chain). c.cell == cell) v.chains) seats empty_view refl in omega arith;
+  one_lock = λ cell. let a = sum_by-replicate (λ (v : View). count_by (λ (c : Chain). c.cell == cell) v.chains) seats empty_view in omega arith;
   chains = chains_are shape seats;
   leaf_words = λ leaf l.
       let w = word-zero shape seats (length shape.parents + leaf) (omega arith) in
-      let a = sum_by-replicate (λ (v : View). count_by (λ l. l == leaf) v.out) seats empty_view refl in
+      let a = sum_by-replicate (λ (v : View). count_by (λ l. l == leaf) v.out) seats empty_view in
       let e : leaf_word shape leaf ≡ suc (length shape.parents + leaf) = omega arith in
-      ap (slice_index (opening shape seats).words) e ∙ w ∙ sym a;
-  one_out = λ leaf. let a = sum_by-replicate (λ (v : View). count_by (λ l. l == leaf) v.out) seats empty_view refl in omega arith;
+      ap (slice_index (opening shape seats).words) e ∙ w ∙ omega arith;
+  one_out = λ leaf. let a = sum_by-replicate (λ (v : View). count_by (λ l. l == leaf) v.out) seats empty_view in omega arith;
   outs = λ seat view leaf v c.
       let c' = subst (λ (w : View). Contains w.out leaf) (sym (view_is_empty shape seats seat view v)) c in
       absurd (let l = c'.1 in omega arith);

@@ -3,11 +3,13 @@ use Rattle.std.proofs.Common.{◌≡◌, ◌≢◌, ℕ, ◌+◌, ◌<◌, ◌�
 use Rattle.std.proofs.lemmas.Bool.{cases_eq}
 use Rattle.std.proofs.lemmas.List.{get_or-set_same, get_or-set_other}
 use Rattle.qs_core.specs.Shape.{Shape}
-use Rattle.qs_core.specs.Core.{Core, Owns, Running, View, leaf_word, view_at, word_count}
+use Rattle.qs_core.specs.Core.{Core, Running, View, leaf_word, view_at, word_count}
 use Rattle.qs_core.specs.Steps.{OwnsAbove}
 use Rattle.qs_core.specs.Sound.{IsOut, IsView, outs_of}
-use Rattle.qs_core.proofs.Counts.{Contains-nil, slice_get-set_cases, sum_by-set_view}
+use Rattle.qs_core.proofs.Counts.{Contains-nil}
 use Rattle.qs_core.proofs.Locks.{IsSoundLeaves, moved}
+use Rattle.qs_core.proofs.Views.{slice_get-set_cases, sum_by-views}
+use Rattle.qs_core.proofs.Owned.{owns_by_chains}
 
 -- how often a leaf stands in a list of those out
 abbrev pub out_count : ℕ → List ℕ → ℕ
@@ -16,7 +18,7 @@ out_count leaf out = count_by (λ l. eqb l leaf) out
 -- a change of one view, counted
 pub outs_change : (leaf : ℕ) (views : List View) (seat : ℕ) (view : View) → seat < length views
     → outs_of leaf (set views seat view) + out_count leaf (view_at views seat).out ≡ outs_of leaf views + out_count leaf view.out
-outs_change leaf views seat view l = sum_by-set_view (λ (v : View). out_count leaf v.out) views seat view l
+outs_change leaf views seat view l = sum_by-views (λ (v : View). out_count leaf v.out) views seat view l
 
 -- where the view has a leaf out as often as before, so have all
 pub same_outs : (leaf : ℕ) (views : List View) (seat : ℕ) (view : View) → seat < length views → out_count leaf view.out ≡ out_count leaf (view_at views seat).out
@@ -70,11 +72,7 @@ leaves_moved shape core seat view object value len l m word one others new s = r
   outs = outs_moved shape core seat view (leaf_word shape object) value new s;
 }
 
--- a view with the same chains owns the same cells, and has a leaf out where that is left to return
-pub owns_by_chains : (shape : Shape) (view after : View) (cell : ℕ) → after.chains ≡ view.chains → Owns shape view cell → Owns shape after cell
-owns_by_chains shape view after cell same o =
-    record { chain = o.chain; stands = subst (λ xs. Contains xs o.chain) (sym same) o.stands; complete = o.complete; of_cell = o.of_cell }
-
+-- a view with the same chains has a leaf out where that is left to return
 pub above_by_chains : (shape : Shape) (view after : View) (leaf : ℕ) → after.chains ≡ view.chains → OwnsAbove shape view leaf → OwnsAbove shape after leaf
 above_by_chains shape view after leaf same o = record { cell = o.cell; owned = owns_by_chains shape view after o.cell same o.owned; below = o.below }
 

@@ -4,7 +4,7 @@ use Rattle.std.proofs.lemmas.Option.{none-some}
 use Rattle.qs_core.specs.Shape.{Shape}
 use Rattle.qs_core.specs.Core.{Chain, Owns, View}
 use Rattle.qs_core.specs.Held.{IsOwner}
-use Rattle.qs_core.proofs.Counts.{Contains-cons_cases, Contains-first, Contains-later, Contains-nil}
+use Rattle.qs_core.proofs.Counts.{Contains-first, Contains-later, Contains-nil, either, only}
 
 -- a chain that stands and owns the cell
 owns-from : (shape : Shape) (view : View) (chains : List Chain) (chain : Chain) (cell : ℕ) → view.chains ≡ chains → Contains chains chain → IsOwner shape chain cell → Owns shape view cell
@@ -14,6 +14,10 @@ owns-from shape view chains chain cell e h o = record { chain = chain; stands = 
 owner-of : (shape : Shape) (view : View) (chain : Chain) (cell : ℕ) (o : Owns shape view cell) → chain ≡ o.chain → IsOwner shape chain cell
 owner-of shape view chain cell o e = subst (λ c. IsOwner shape c cell) (sym e) (o.complete, o.of_cell)
 
+-- a view with the same chains owns the same cells
+pub owns_by_chains : (shape : Shape) (view after : View) (cell : ℕ) → after.chains ≡ view.chains → Owns shape view cell → Owns shape after cell
+owns_by_chains shape view after cell same o = owns-from shape after view.chains o.chain cell same o.stands (o.complete, o.of_cell)
+
 pub owned_none : (shape : Shape) (view : View) (cell : ℕ) → view.chains ≡ [] → Owns shape view cell → ⊥
 owned_none shape view cell e o = Contains-nil o.chain (subst (λ cs. Contains cs o.chain) e o.stands)
 
@@ -21,10 +25,7 @@ owned_none shape view cell e o = Contains-nil o.chain (subst (λ cs. Contains cs
 pub owned_one : (shape : Shape) (view : View) (chain : Chain) (owned : Option ℕ) → view.chains ≡ chain ∷ [] → ((cell : ℕ) → ((owned ≡ Some cell) ↔ IsOwner shape chain cell))
     → (cell : ℕ) → Owns shape view cell ↔ ((owned ≡ Some cell) ⊎ (◌≡◌ {A = Option ℕ} None (Some cell)))
 owned_one shape view chain owned e is cell = (
-  λ o. elim (Contains-cons_cases chain [] o.chain (subst (λ cs. Contains cs o.chain) e o.stands)) [
-    | inl same ↦ inl ((is cell).1 (owner-of shape view chain cell o same))
-    | inr h ↦ absurd (Contains-nil o.chain h)
-  ],
+  λ o. inl ((is cell).1 (owner-of shape view chain cell o (only chain o.chain (subst (λ cs. Contains cs o.chain) e o.stands)))),
   λ s. elim s [
     | inl h ↦ owns-from shape view (chain ∷ []) chain cell e (Contains-first chain []) ((is cell).0 h)
     | inr h ↦ absurd (none-some cell h)
@@ -36,12 +37,9 @@ pub owned_two : (shape : Shape) (view : View) (newest older : Chain) (owned othe
     → ((cell : ℕ) → ((owned ≡ Some cell) ↔ IsOwner shape newest cell)) → ((cell : ℕ) → ((other ≡ Some cell) ↔ IsOwner shape older cell))
     → (cell : ℕ) → Owns shape view cell ↔ ((owned ≡ Some cell) ⊎ (other ≡ Some cell))
 owned_two shape view newest older owned other e is is' cell = (
-  λ o. elim (Contains-cons_cases newest (older ∷ []) o.chain (subst (λ cs. Contains cs o.chain) e o.stands)) [
+  λ o. elim (either newest older o.chain (subst (λ cs. Contains cs o.chain) e o.stands)) [
     | inl same ↦ inl ((is cell).1 (owner-of shape view newest cell o same))
-    | inr h ↦ elim (Contains-cons_cases older [] o.chain h) [
-      | inl same ↦ inr ((is' cell).1 (owner-of shape view older cell o same))
-      | inr g ↦ absurd (Contains-nil o.chain g)
-    ]
+    | inr same ↦ inr ((is' cell).1 (owner-of shape view older cell o same))
   ],
   λ s. elim s [
     | inl h ↦ owns-from shape view (newest ∷ older ∷ []) newest cell e (Contains-first newest (older ∷ [])) ((is cell).0 h)

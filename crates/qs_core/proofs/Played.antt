@@ -1,5 +1,5 @@
 -- The machine after an event, and the place of the word that it changes.
-use Rattle.std.proofs.Common.{◌≡◌, ◌≢◌, ◌↔◌, ℕ, ◌-◌, ◌<◌, ◌≤◌, List, [], ◌∷◌, length, get_or, set, slice_index, Contains, Option, Some, None, refl, sym, ap, ap₂, subst, ◌∙◌, arith, length-set}
+use Rattle.std.proofs.Common.{◌≡◌, ◌↔◌, ℕ, ◌-◌, ◌<◌, List, length, get_or, set, Contains, Option, Some, None, refl, sym, ap, ap₂, subst, ◌∙◌, arith, length-set}
 use Rattle.std.specs.List.{Any}
 use Rattle.std.proofs.lemmas.Option.{get_or_from_slice_get, slice_get_read, slice_get_within}
 use Rattle.qs_core.specs.declared.event.Event.{Event}
@@ -9,15 +9,14 @@ use Rattle.qs_core.specs.declared.event.Step.TheVariants.{Lock, Raise, Lower, Un
 use Rattle.qs_core.specs.Shape.{Shape, IsShape, Touches, ancestors, or_else}
 use Rattle.qs_core.specs.Core.{Core, Running, View, empty_view, view_at, word_count}
 use Rattle.qs_core.specs.Sound.{IsClaimed, IsDone, IsSound}
-use Rattle.qs_core.specs.Steps.{Allowed, CanRelease, IsAllowed, exchanged, newest, next_successor, object_of, rest, seen_by, view_after, word_of}
-use Rattle.qs_core.specs.Machine.{IsMachine, Machine, note_of, played}
+use Rattle.qs_core.specs.Steps.{Allowed, IsAllowed, exchanged, newest, object_of, seen_by, view_after, word_of}
+use Rattle.qs_core.specs.Machine.{IsMachine, Machine, machine_of, note_of, played}
 use Rattle.qs_core.specs.Held.{RunsOn}
-use Rattle.qs_core.specs.States.{machine_of}
 use Rattle.qs_core.proofs.Ancestors.{ancestor_is_cell}
-use Rattle.qs_core.proofs.Chains.{newest_and_rest}
-use Rattle.qs_core.proofs.Counts.{Contains-first}
+use Rattle.qs_core.proofs.Chains.{newest_is}
 use Rattle.qs_core.proofs.SoundKept.{sound_kept}
 use Rattle.qs_core.proofs.Views.{IsView-view_at}
+use Rattle.qs_core.proofs.Tasks.{IsReleasing-from}
 
 -- a task that runs with a leaf left
 pub record IsRunningOn (o : Option Running) (task leaf : ℕ) : Type 0 where
@@ -51,28 +50,6 @@ done_is shape core task leaf touches claimed = (
       done.none_left left.0 left.1 r.running (record { is = at }) (record { is = r.is; of_task = r.of_task }) r.left,
 )
 
--- the newest chain is of a cell, with no more raises than there are ancestors
-newest_is : (shape : Shape) (core : Core) (seat : ℕ) → IsSound shape core → seat < length core.views → (view_at core.views seat).chains ≢ []
-    → ((newest (view_at core.views seat)).cell < length shape.parents) × ((newest (view_at core.views seat)).raises ≤ length (ancestors shape (newest (view_at core.views seat)).cell))
-newest_is shape core seat s l some =
-    let view = view_at core.views seat in
-    let chains = s.chains seat view (IsView-view_at core seat l) in
-    chains.cells (newest view) (subst (λ cs. Contains cs (newest view)) (sym (newest_and_rest view some)) (Contains-first (newest view) (rest view.chains)))
-
-first-contained : (xs : List ℕ) → xs ≢ [] → Contains xs (slice_index xs 0)
-first-contained [] n = absurd (n refl)
-first-contained (x ∷ xs) n = Contains-first x xs
-
--- the successor that is released next is a task
-successor_is_task : (shape : Shape) (core : Core) (seat : ℕ) → IsShape shape → IsSound shape core → seat < length core.views → CanRelease (view_at core.views seat)
-    → next_successor (view_at core.views seat).running < length shape.tasks
-successor_is_task shape core seat is s l can =
-    let view = view_at core.views seat in
-    let runs = s.runs seat view can.running (IsView-view_at core seat l) can.runs in
-    let edge = (runs.successors (slice_index can.running.successors 0)).0 (first-contained can.running.successors can.left) in
-    let later = (is.tasks can.running.task runs.is_task).later (slice_index can.running.successors 0) edge in
-    subst (λ o. next_successor o < length shape.tasks) (sym can.runs) later.1
-
 -- the word of an allowed step is one of the words
 pub place_within : (shape : Shape) (core : Core) (seat : ℕ) (step : Step) → IsShape shape → IsSound shape core → seat < length core.views → Allowed shape (view_at core.views seat) step
     → word_of shape step (object_of shape (view_at core.views seat) step) < word_count shape
@@ -82,16 +59,16 @@ place_within shape core seat Raise is s l can =
     let h = ancestor_is_cell shape is (newest view).cell (newest view).raises can.not_all in omega arith
 place_within shape core seat Lower is s l can =
     let view = view_at core.views seat in
-    let n = newest_is shape core seat s l can.some in
+    let n = newest_is shape core (view_at core.views seat) (s.chains seat (view_at core.views seat) (IsView-view_at core seat l)) can.some in
     let r = can.raised in
     let few = n.1 in
     let k : (newest view).raises - 1 < length (ancestors shape (newest view).cell) = omega arith in
     let h = ancestor_is_cell shape is (newest view).cell ((newest view).raises - 1) k in omega arith
-place_within shape core seat Unlock is s l can = let n = newest_is shape core seat s l can.some in let h = n.0 in omega arith
+place_within shape core seat Unlock is s l can = let n = newest_is shape core (view_at core.views seat) (s.chains seat (view_at core.views seat) (IsView-view_at core seat l)) can.some in let h = n.0 in omega arith
 place_within shape core seat (Fetch leaf) is s l can = let h = can.is_leaf in omega arith
 place_within shape core seat (Return leaf) is s l can = let h = can.is_leaf in omega arith
 place_within shape core seat (Claim task) is s l can = let h = can.is_task in omega arith
-place_within shape core seat Release is s l can = let h = successor_is_task shape core seat is s l can in omega arith
+place_within shape core seat Release is s l can = let r = IsReleasing-from shape core seat is s l can in let next = r.next in let h = r.is_task in omega arith
 
 -- an allowed event keeps what every machine keeps
 pub machine_kept : (m : Machine) (event : Event) → IsMachine m → IsAllowed m.shape m.core event → IsMachine (played m event)

@@ -6,9 +6,8 @@ use Rattle.qs_core.specs.Shape.{Shape, IsEdge, task_at}
 use Rattle.qs_core.specs.Core.{Core, Running, View, claimed_word, task_word}
 use Rattle.qs_core.specs.Sound.{IsReleased, IsSound, IsView, left_in, unreleased}
 use Rattle.qs_core.specs.Laws.{ReleasedMeansNone}
-use Rattle.qs_core.proofs.Counts.{get_from_Contains}
-use Rattle.qs_core.proofs.Edges.{count-none, count-pos, part-le-range, range-within}
-use Rattle.qs_core.proofs.Totals.{sum_by-none}
+use Rattle.qs_core.proofs.Counts.{count-pos, count-zero, get_from_Contains, sum_by-none}
+use Rattle.qs_core.proofs.Edges.{part-le-range, range-within}
 use Rattle.qs_core.proofs.Views.{part-le-sum_by}
 
 -- the edges from a task that isn't claimed into another
@@ -43,7 +42,7 @@ module _ (shape : Shape) (core : Core) (after : ℕ) (sound : IsSound shape core
         | inl c ↦ cond-true (slice_index core.words (task_word shape before) == claimed_word) 0 (count_by (λ s. s == after) (task_at shape before).successors) (eq-eqb _ _ c)
         | inr n ↦
             cond-false (slice_index core.words (task_word shape before) == claimed_word) 0 (count_by (λ s. s == after) (task_at shape before).successors) (ne_eqb _ _ n)
-            ∙ count-none (task_at shape before).successors after (λ edge. n (released before l edge).claimed)
+            ∙ count-zero (task_at shape before).successors after (λ edge. n (released before l edge).claimed)
       ]
 
   -- no view has one left
@@ -51,7 +50,7 @@ module _ (shape : Shape) (core : Core) (after : ℕ) (sound : IsSound shape core
   none_in seat view v None e = refl
   none_in seat view v (Some running) e =
       let runs = sound.runs seat view running v e in
-      count-none running.successors after (λ c.
+      count-zero running.successors after (λ c.
       (released running.task runs.is_task ((runs.successors after).0 c)).none_left seat view running v (record { is = e; of_task = refl }) c)
 
   none_unreleased : unreleased shape core after ≡ 0

@@ -3,11 +3,12 @@ use Rattle.std.proofs.Common.{◌≡◌, ◌≢◌, ℕ, ◌<◌, ◌==◌, cond
 use Rattle.std.specs.List.{range_with_len}
 use Rattle.std.proofs.lemmas.Option.{none-some, same_Some}
 use Rattle.qs_core.specs.Shape.{Shape, IsEdge, Touches, task_at}
-use Rattle.qs_core.specs.Core.{Chain, Core, View, Running, task_word, claimed_word, view_at}
+use Rattle.qs_core.specs.Core.{Core, View, Running, task_word, claimed_word, view_at}
 use Rattle.qs_core.specs.Steps.{OwnsJust, unless_over}
 use Rattle.qs_core.specs.Sound.{IsSound, IsView, IsClaimed, IsDone, IsRunning, Runs, left_in, unclaimed_edges, unreleased}
 use Rattle.qs_core.proofs.Edges.{sum_by-same}
 use Rattle.qs_core.proofs.Views.{IsView-view_at, changed, view_cases, sum_by-views}
+use Rattle.qs_core.proofs.Owned.{owns_by_chains}
 
 -- what a sound state keeps of its tasks
 pub record IsSoundTasks (shape : Shape) (core : Core) : Type 0 where
@@ -161,8 +162,8 @@ tasks-same shape core words seat new sound l same e owns =
 -- what a view owns hangs on its chains alone
 pub OwnsJust-chains : (shape : Shape) (view view' : View) (task : ℕ) → view.chains ≡ view'.chains → OwnsJust shape view task → OwnsJust shape view' task
 OwnsJust-chains shape view view' task e owns cell = (
-  λ o. (owns cell).0 (record { chain = o.chain; stands = subst (λ (cs : List Chain). Contains cs o.chain) (sym e) o.stands; complete = o.complete; of_cell = o.of_cell }),
-  λ is. let o = (owns cell).1 is in record { chain = o.chain; stands = subst (λ (cs : List Chain). Contains cs o.chain) e o.stands; complete = o.complete; of_cell = o.of_cell },
+  λ o. (owns cell).0 (owns_by_chains shape view' view cell e o),
+  λ is. owns_by_chains shape view view' cell (sym e) ((owns cell).1 is),
 )
 
 -- a task that isn't over has what is given, and something is left

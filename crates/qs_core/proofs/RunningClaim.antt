@@ -7,11 +7,12 @@ use Rattle.qs_core.specs.Shape.{Shape, IsShape, IsEdge, Touches, leaves_of, task
 use Rattle.qs_core.specs.Core.{Core, View, Running, task_word, claimed_word, view_at}
 use Rattle.qs_core.specs.Steps.{CanClaim, stepped}
 use Rattle.qs_core.specs.Sound.{IsSound, IsView, IsClaimed, IsDone, IsRunning, Runs, left_in, unclaimed_edges, unreleased}
-use Rattle.qs_core.proofs.Edges.{sum_by-range_change, part-le-range, count-pos}
+use Rattle.qs_core.proofs.Edges.{part-le-range, sum_by-range_change}
 use Rattle.qs_core.proofs.Tasks.{word-other, word-same}
 use Rattle.qs_core.proofs.Views.{changed, part-le-sum_by, view_cases, sum_by-views}
 use Rattle.qs_core.proofs.Running.{IsSoundTasks, OwnsJust-chains, runs-kept, tasks-same}
 use Rattle.qs_core.proofs.RunningLeaves.{leaves-once, leaves-some}
+use Rattle.qs_core.proofs.Counts.{count-pos}
 
 -- the task as it starts to run
 abbrev started : Shape → ℕ → Running

@@ -4,14 +4,13 @@ use Rattle.std.proofs.lemmas.Bool.{cases_lt}
 use Rattle.std.proofs.lemmas.List.FromFn.{length-range_with_len}
 use Rattle.std.proofs.lemmas.List.Sums.{sum_by-append}
 use Rattle.qs_core.specs.Shape.{Shape, IsShape, IsBelow, leaves_below, leaves_of, leaves_of_other, range_of, task_at}
-use Rattle.qs_core.proofs.Edges.{count-range, range-within, Contains-from_count}
+use Rattle.qs_core.proofs.Edges.{count-range}
+use Rattle.qs_core.proofs.Counts.{Contains-from_count}
+use Rattle.qs_core.proofs.Below.{below_is}
 
 -- a leaf that is listed for a cell is below it
 below-from : (shape : Shape) (cell leaf : ℕ) → 0 < count_by (λ l. l == leaf) (leaves_below shape cell) → IsBelow shape leaf cell
-below-from shape cell leaf some =
-    let low = (range_of shape cell).0 in
-    let w = range-within low ((range_of shape cell).1 - low) leaf (Contains-from_count _ leaf some) in
-    record { from = w.0; to = let a = w.0 in let b = w.1 in omega arith }
+below-from shape cell leaf some = (below_is shape cell leaf).0 (Contains-from_count _ leaf some)
 
 -- a task touches each leaf once
 pub leaves-once : (shape : Shape) (task leaf : ℕ) → IsShape shape → task < length shape.tasks → count_by (λ l. l == leaf) (leaves_of shape task) ≤ 1

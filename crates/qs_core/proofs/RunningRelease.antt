@@ -1,5 +1,5 @@
 -- The tasks after a release.
-use Rattle.std.proofs.Common.{◌≡◌, ◌≢◌, ℕ, suc, ◌+◌, ◌*◌, ◌-◌, ◌%◌, ◌^◌, ◌<◌, ◌≤◌, ◌==◌, cond, List, [], ◌∷◌, length, get_or, slice_index, slice_set, sum_by, count_by, Contains, Option, Some, None, refl, sym, ap, ◌∙◌, subst, inl, inr, arith}
+use Rattle.std.proofs.Common.{◌≡◌, ◌≢◌, ℕ, ◌+◌, ◌*◌, ◌-◌, ◌%◌, ◌^◌, ◌<◌, ◌≤◌, ◌==◌, cond, List, [], ◌∷◌, length, get_or, slice_index, slice_set, sum_by, count_by, Contains, Option, Some, None, refl, sym, ap, ◌∙◌, subst, inl, inr, arith}
 use Rattle.std.specs.List.{range_with_len}
 use Rattle.std.proofs.lemmas.Bool.{cases_eq, eq-eqb, ne_eqb, cond-true, cond-false, cond_both}
 use Rattle.std.proofs.lemmas.List.Elements.{All-from_get_or}
@@ -10,7 +10,7 @@ use Rattle.qs_core.specs.Shape.{Shape, IsShape, task_at}
 use Rattle.qs_core.specs.Core.{Core, View, Running, task_word, claimed_word, view_at}
 use Rattle.qs_core.specs.Steps.{CanRelease, after_release, next_successor, rest, stepped}
 use Rattle.qs_core.specs.Sound.{IsSound, IsView, IsClaimed, IsRunning, Runs, left_in, unreleased}
-use Rattle.qs_core.proofs.Counts.{get_from_Contains, one_if, one_if-le, one_if-other, one_if-same}
+use Rattle.qs_core.proofs.Counts.{Contains-later, get_from_Contains, one_if, one_if-le, one_if-other, one_if-same}
 use Rattle.qs_core.proofs.Edges.{part-le-range}
 use Rattle.qs_core.proofs.Totals.{few_for_places, one_in_all}
 use Rattle.qs_core.proofs.Tasks.{IsReleasing, IsReleasing-from, word-other, word-same}
@@ -24,7 +24,7 @@ falls word some few = omega arith
 -- an element of the rest is one of the whole
 Contains-rest : (xs : List ℕ) (x : ℕ) → Contains (rest xs) x → Contains xs x
 Contains-rest [] x c = c
-Contains-rest (y ∷ ys) x c = (suc c.0, let l = c.1 in omega arith, c.2)
+Contains-rest (y ∷ ys) x c = Contains-later y ys x c
 
 -- the first element and the rest are counted
 count-rest : (xs : List ℕ) (t : ℕ) → xs ≢ [] → count_by (λ y. y == t) xs ≡ cond (slice_index xs 0 == t) 1 0 + count_by (λ y. y == t) (rest xs)

@@ -5,9 +5,10 @@ use Rattle.qs_core.specs.Shape.{Shape}
 use Rattle.qs_core.specs.Core.{Core, View, Running, task_word, view_at}
 use Rattle.qs_core.specs.Steps.{after_return, without}
 use Rattle.qs_core.specs.Sound.{IsSound, IsClaimed, IsRunning, left_in}
-use Rattle.qs_core.proofs.Edges.{count-filter, Contains-from_filter}
+use Rattle.qs_core.proofs.Edges.{count-filter}
 use Rattle.qs_core.proofs.Views.{IsView-view_at, changed}
 use Rattle.qs_core.proofs.Running.{AllCame, IsLeft-from, IsSoundTasks, OwnsJust-chains, left-unless_over, tasks-plain}
+use Rattle.qs_core.proofs.Counts.{Contains-from_filter}
 
 -- the view after a return
 abbrev returned : View → ℕ → View

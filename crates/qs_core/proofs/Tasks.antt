@@ -1,18 +1,18 @@
 -- Which words a step leaves, and the facts of a release.
-use Rattle.std.proofs.Common.{◌≡◌, ◌≢◌, ℕ, ◌-◌, ◌<◌, ◌≤◌, List, [], ◌∷◌, length, slice_index, slice_set, Contains, refl, sym, ap, subst, inl, inr, arith}
+use Rattle.std.proofs.Common.{◌≡◌, ◌≢◌, ℕ, ◌-◌, ◌<◌, ◌≤◌, List, length, slice_index, slice_set, Contains, ap, inl, inr, arith}
 use Rattle.std.specs.Bool.{⊤}
 use Rattle.std.proofs.lemmas.Bool.{cases_lt}
 use Rattle.std.proofs.lemmas.List.{get_or_past, get_or-set_same, get_or-set_other}
-use Rattle.std.proofs.lemmas.List.Elements.{Contains-get_or}
 use Rattle.qs_core.specs.declared.event.Step.{Step}
 use Rattle.qs_core.specs.declared.event.Step.TheVariants.{Lock, Raise, Lower, Unlock, Fetch, Return, Claim, Release}
 use Rattle.qs_core.specs.Shape.{Shape, IsShape, IsEdge, ancestors}
-use Rattle.qs_core.specs.Core.{Chain, Core, View, Running, task_word, view_at}
+use Rattle.qs_core.specs.Core.{Core, View, Running, task_word, view_at}
 use Rattle.qs_core.specs.Steps.{Allowed, CanRelease, newest, word_of, object_of, next_successor}
-use Rattle.qs_core.specs.Sound.{IsSound, IsClaimed, AreChains, left_in, unreleased}
+use Rattle.qs_core.specs.Sound.{IsSound, IsClaimed, left_in, unreleased}
 use Rattle.qs_core.proofs.Ancestors.{ancestor_is_cell}
-use Rattle.qs_core.proofs.Edges.{count-pos}
 use Rattle.qs_core.proofs.Views.{IsView-view_at, part-le-sum_by}
+use Rattle.qs_core.proofs.Counts.{count-pos, first-contained}
+use Rattle.qs_core.proofs.Chains.{newest_is}
 
 -- the ancestors of a cell are cells, and past the last of them cell 0 is read
 pub ancestor-below : (shape : Shape) (cell i : ℕ) → IsShape shape → cell < length shape.parents → slice_index (ancestors shape cell) i < length shape.parents
@@ -21,17 +21,6 @@ ancestor-below shape cell i s l =
       | inl within ↦ ancestor_is_cell shape s cell i within
       | inr past ↦ let e : slice_index (ancestors shape cell) i ≡ 0 = get_or_past (ancestors shape cell) i 0 past in omega arith
     ]
-
--- the cell of the newest chain is one
-newest-below : (shape : Shape) (core : Core) (view : View) → AreChains shape core view → view.chains ≢ [] → (newest view).cell < length shape.parents
-newest-below shape core view chains some = go view.chains refl
-  where
-    go : (cs : List Chain) → view.chains ≡ cs → (newest view).cell < length shape.parents
-    go [] e = absurd (some e)
-    go (c ∷ cs) e =
-        let first : newest view ≡ c = ap (λ (xs : List Chain). newest (record view { chains = xs })) e in
-        let there : Contains view.chains c = subst (λ (xs : List Chain). Contains xs c) (sym e) (0, omega arith, refl) in
-        rw first ((chains.cells c there).0)
 
 -- the word of a task stays where another word is written
 pub word-other : (shape : Shape) (words : List ℕ) (word value task : ℕ) → task_word shape task ≢ word → slice_index (slice_set words word value) (task_word shape task) ≡ slice_index words (task_word shape task)
@@ -53,17 +42,17 @@ pub word-apart : (shape : Shape) (core : Core) (seat : ℕ) (step : Step) (task 
 word-apart shape core seat (Lock cell) task s sound l a p = λ e. let c = a.is_cell in omega arith
 word-apart shape core seat Raise task s sound l a p =
     let view = view_at core.views seat in
-    let cell = newest-below shape core view (sound.chains seat view (IsView-view_at core seat l)) a.some in
+    let cell = (newest_is shape core view (sound.chains seat view (IsView-view_at core seat l)) a.some).0 in
     let c = ancestor-below shape (newest view).cell (newest view).raises s cell in
     λ e. omega arith
 word-apart shape core seat Lower task s sound l a p =
     let view = view_at core.views seat in
-    let cell = newest-below shape core view (sound.chains seat view (IsView-view_at core seat l)) a.some in
+    let cell = (newest_is shape core view (sound.chains seat view (IsView-view_at core seat l)) a.some).0 in
     let c = ancestor-below shape (newest view).cell ((newest view).raises - 1) s cell in
     λ e. omega arith
 word-apart shape core seat Unlock task s sound l a p =
     let view = view_at core.views seat in
-    let cell = newest-below shape core view (sound.chains seat view (IsView-view_at core seat l)) a.some in
+    let cell = (newest_is shape core view (sound.chains seat view (IsView-view_at core seat l)) a.some).0 in
     λ e. omega arith
 word-apart shape core seat (Fetch leaf) task s sound l a p = λ e. let c = a.is_leaf in omega arith
 word-apart shape core seat (Return leaf) task s sound l a p = λ e. let c = a.is_leaf in omega arith
@@ -80,11 +69,6 @@ pub record IsReleasing (shape : Shape) (core : Core) (view : View) (running : Ru
   pub unreleased : 1 ≤ unreleased shape core after
   pub unclaimed : IsClaimed shape core after → ⊥
 
--- a list that isn't empty has an element
-some-length : (xs : List ℕ) → xs ≢ [] → 0 < length xs
-some-length [] n = absurd (n refl)
-some-length (x ∷ xs) n = omega arith
-
 -- it is known where a release is allowed
 pub IsReleasing-from : (shape : Shape) (core : Core) (seat : ℕ) → IsShape shape → IsSound shape core → seat < length core.views → (a : CanRelease (view_at core.views seat))
     → IsReleasing shape core (view_at core.views seat) a.running (slice_index a.running.successors 0)
@@ -93,7 +77,7 @@ IsReleasing-from shape core seat s sound l a =
     let after = slice_index a.running.successors 0 in
     let v = IsView-view_at core seat l in
     let runs = sound.runs seat view a.running v a.runs in
-    let left : Contains a.running.successors after = Contains-get_or a.running.successors 0 0 (some-length a.running.successors a.left) in
+    let left : Contains a.running.successors after = first-contained a.running.successors a.left in
     let edge = (runs.successors after).0 left in
     let below = ((s.tasks a.running.task runs.is_task).later after edge).1 in
     let counted : 1 ≤ left_in view.running after = rw a.runs (let c = count-pos a.running.successors after left in omega arith) in

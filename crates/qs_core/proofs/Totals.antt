@@ -5,16 +5,7 @@ use Rattle.std.proofs.lemmas.Bool.{cases_lt}
 use Rattle.std.proofs.lemmas.List.Elements.{All-from_get_or}
 use Rattle.std.proofs.lemmas.List.FromFn.{length-range_with_len}
 use Rattle.std.proofs.lemmas.List.Sums.{sum_by-cons, sum_by-le}
-use Rattle.qs_core.proofs.Counts.{Contains-first, Contains-later, get_from_Contains}
-
--- what is nothing everywhere sums to nothing
-pub sum_by-none : {X : Type 0} (f : X → ℕ) (xs : List X) → ((x : X) → Contains xs x → f x ≡ 0) → sum_by f xs ≡ 0
-sum_by-none f [] none = refl
-sum_by-none f (x ∷ xs) none =
-    let a = sum_by-cons f x xs in
-    let b = none x (Contains-first x xs) in
-    let c = sum_by-none f xs (λ y h. none y (Contains-later x xs y h)) in
-    omega arith
+use Rattle.qs_core.proofs.Counts.{Contains-first, Contains-later, get_from_Contains, sum_by-none}
 
 -- what is less everywhere sums to less
 pub sum_by-within : {X : Type 0} (f g : X → ℕ) (xs : List X) → ((x : X) → Contains xs x → f x ≤ g x) → sum_by f xs ≤ sum_by g xs

@@ -1,48 +1,18 @@
 -- The edges into a task that aren't released are as many as are counted.
-use Rattle.std.proofs.Common.{◌≡◌, ◌↔◌, ℕ, ◌+◌, ◌<◌, ◌≤◌, ◌==◌, Bool, true, false, cond, List, [], ◌∷◌, length, slice_index, filter, sum_by, count_by, Contains, Option, Some, None, refl, sym, ap, ◌∙◌, subst, inl, inr, arith}
+use Rattle.std.proofs.Common.{◌≡◌, ◌↔◌, ℕ, ◌+◌, ◌<◌, ◌≤◌, ◌==◌, true, cond, List, length, slice_index, filter, sum_by, count_by, Contains, Option, Some, None, refl, sym, ap, ◌∙◌, subst, inl, inr, arith}
 use Rattle.std.specs.List.{range_with_len}
 use Rattle.std.proofs.lemmas.Bool.{cases_eq, cases_lt, cond-true, cond-false, eq-eqb, ne_eqb, eqb-true}
 use Rattle.std.proofs.lemmas.List.Elements.{All-contains, filter_passes}
-use Rattle.std.proofs.lemmas.List.FromFn.{length-range_with_len, get_or-range_with_len}
-use Rattle.std.proofs.lemmas.List.Sums.{length-filter, sum_by-cons}
+use Rattle.std.proofs.lemmas.List.Sums.{length-filter}
 use Rattle.qs_core.specs.Shape.{Shape, IsEdge, IsShape, task_at}
 use Rattle.qs_core.specs.Core.{Core, Running, View, claimed_word, task_word}
 use Rattle.qs_core.specs.Sound.{IsClaimed, IsReleased, IsSound, IsView, left_in, unreleased}
 use Rattle.qs_core.specs.Laws.{UnreleasedAreCounted}
-use Rattle.qs_core.proofs.Counts.{Contains-cons_cases, Contains-first, Contains-later, Contains-nil, get_from_Contains}
-use Rattle.qs_core.proofs.Edges.{Contains-from_count, Contains-from_filter, count-filter, count-pos, count-range, range-within, sum_by-range_change}
+use Rattle.qs_core.proofs.Counts.{Contains-filter, Contains-from_count, Contains-from_filter, count-pos, get_from_Contains, some_share, sum_by-none}
+use Rattle.qs_core.proofs.Edges.{Contains-range, count-filter, count-range, range-within, sum_by-range_change}
 use Rattle.qs_core.proofs.ReleasedEdges.{edges_from}
-use Rattle.qs_core.proofs.Totals.{one_in_all, sum_by-none, sum_by-plus, sum_by-turned, sum_by-within}
+use Rattle.qs_core.proofs.Totals.{one_in_all, sum_by-plus, sum_by-turned, sum_by-within}
 use Rattle.qs_core.proofs.Views.{part-le-sum_by}
-
--- a number of a range stands there
-Contains-range : (n x : ℕ) → x < n → Contains (range_with_len 0 n) x
-Contains-range n x l = (x, rw (length-range_with_len 0 n) l, get_or-range_with_len 0 n x x l ∙ omega arith)
-
--- what passes a filter is kept
-Contains-filter : {X : Type 0} (p : X → Bool) (xs : List X) (x : X) → Contains xs x → p x ≡ true → Contains (filter p xs) x
-Contains-filter p [] x c e = absurd (Contains-nil x c)
-Contains-filter {X} p (y ∷ ys) x c e = elim (Contains-cons_cases y ys x c) [
-  | inl s ↦
-      let t : p y ≡ true = ap p s ∙ e in
-      let here : filter p (y ∷ ys) ≡ y ∷ filter p ys = ap (λ (b : Bool). cond {A = List X} b (y ∷ filter p ys) (filter p ys)) t in
-      subst (λ xs. Contains xs x) (sym here) (subst (Contains (y ∷ filter p ys)) s (Contains-first y (filter p ys)))
-  | inr h ↦ go (p y) (Contains-filter p ys x h e)
-]
-  where
-    go : (b : Bool) → Contains (filter p ys) x → Contains (cond {A = List X} b (y ∷ filter p ys) (filter p ys)) x
-    go true h = Contains-later y (filter p ys) x h
-    go false h = h
-
--- where a sum is more than 0, some element's share is
-some_share : {X : Type 0} (f : X → ℕ) (xs : List X) → 0 < sum_by f xs → (x : X) × Contains xs x × (0 < f x)
-some_share f [] l = absurd (omega arith)
-some_share f (x ∷ xs) l =
-    let a = sum_by-cons f x xs in
-    elim (cases_lt 0 (f x)) [
-      | inl here ↦ (x, Contains-first x xs, here)
-      | inr none ↦ let w = some_share f xs (omega arith) in (w.0, Contains-later x xs w.0 w.1, w.2)
-    ]
 
 -- how many edges from a task into another a view has left
 abbrev left_from : Option Running → ℕ → ℕ → ℕ
@@ -213,7 +183,7 @@ module _ (shape : Shape) (core : Core) (after : ℕ) (s : IsShape shape) (sound 
     λ w.
         let few = few_edges before w.0 in
         let some = edge_counts before w.1 w.2 in
-        Contains-filter (λ b. edges_of b == 1) all_tasks before (Contains-range (length shape.tasks) before w.0) (eq-eqb (edges_of before) 1 (omega arith)),
+        Contains-filter (λ b. edges_of b == 1) all_tasks before (Contains-range 0 (length shape.tasks) before (omega arith) (let l = w.0 in omega arith)) (eq-eqb (edges_of before) 1 (omega arith)),
   )
 
 pub unreleased_are_counted : UnreleasedAreCounted

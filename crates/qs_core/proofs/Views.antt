@@ -2,11 +2,12 @@
 use Rattle.std.proofs.Common.{◌≡◌, ◌≢◌, ℕ, zero, suc, ◌+◌, ◌<◌, ◌≤◌, ◌⊎◌, List, [], ◌∷◌, length, get_or, set, slice_get, slice_set, sum_by, Some, refl, sym, ap, ◌∙◌, inl, inr, length-set}
 use Rattle.std.proofs.lemmas.Bool.{cases_eq}
 use Rattle.std.proofs.lemmas.List.{get_or-set_same}
-use Rattle.std.proofs.lemmas.List.Sums.{sum_by-set, get_or-le-sum_by}
-use Rattle.std.proofs.lemmas.Option.{slice_get-get_or, get_or_from_slice_get, slice_get_within, same_Some}
-use Rattle.qs_core.specs.Shape.{Shape, TaskShape, or_else, task_at, no_task}
+use Rattle.std.proofs.lemmas.List.Sums.{sum_by-set}
+use Rattle.std.proofs.lemmas.Option.{none-some, slice_get-get_or, slice_get_within, same_Some}
+use Rattle.qs_core.specs.Shape.{Shape, or_else, task_at, no_task}
 use Rattle.qs_core.specs.Core.{Core, View, empty_view, view_at}
 use Rattle.qs_core.specs.Sound.{IsView}
+use Rattle.qs_core.proofs.Counts.{Contains-from_get, share-le}
 
 -- an element that was put is there
 pub slice_get-set_same : {X : Type 0} (xs : List X) (i : ℕ) (y : X) → i < length xs → slice_get (set xs i y) i ≡ Some y
@@ -20,15 +21,27 @@ slice_get-set_other (x ∷ xs) zero (suc j) y n = refl
 slice_get-set_other (x ∷ xs) (suc i) zero y n = refl
 slice_get-set_other (x ∷ xs) (suc i) (suc j) y n = slice_get-set_other xs i j y (λ e. n (ap suc e))
 
+-- what stands at a place after a write
+pub slice_get-set_cases : {X : Type 0} (xs : List X) (i j : ℕ) (y z : X) → slice_get (set xs i y) j ≡ Some z → ((j ≡ i) × (y ≡ z)) ⊎ (slice_get xs j ≡ Some z)
+slice_get-set_cases [] i j y z e = absurd (none-some z e)
+slice_get-set_cases (x ∷ xs) zero zero y z e = inl (refl, same_Some y z e)
+slice_get-set_cases (x ∷ xs) zero (suc j) y z e = inr e
+slice_get-set_cases (x ∷ xs) (suc i) zero y z e = inr e
+slice_get-set_cases (x ∷ xs) (suc i) (suc j) y z e = elim (slice_get-set_cases xs i j y z e) [ inl p ↦ inl (ap suc p.0, p.1) | inr q ↦ inr q ]
+
+-- an element, or else a default
+pub or_else-get_or : {X : Type 0} (d : X) (xs : List X) (i : ℕ) → or_else d (slice_get xs i) ≡ get_or xs i d
+or_else-get_or d [] i = refl
+or_else-get_or d (x ∷ xs) zero = refl
+or_else-get_or d (x ∷ xs) (suc i) = or_else-get_or d xs i
+
 -- the state with a seat's view and the words changed
 abbrev pub changed : Core → List ℕ → ℕ → View → Core
 changed core words seat new = record { words = words; views = slice_set core.views seat new }
 
 -- the view of a seat is an element
 pub view_at-get_or : (views : List View) (seat : ℕ) → view_at views seat ≡ get_or views seat empty_view
-view_at-get_or [] seat = refl
-view_at-get_or (x ∷ xs) zero = refl
-view_at-get_or (x ∷ xs) (suc seat) = view_at-get_or xs seat
+view_at-get_or views seat = or_else-get_or empty_view views seat
 
 -- a seat below the count has its view
 pub IsView-view_at : (core : Core) (seat : ℕ) → seat < length core.views → IsView core seat (view_at core.views seat)
@@ -83,15 +96,8 @@ sum_by-views f views seat new l = rw (view_at-get_or views seat) (sum_by-set f v
 
 -- a view's part is at most the sum
 pub part-le-sum_by : (f : View → ℕ) (core : Core) (seat : ℕ) (view : View) → IsView core seat view → f view ≤ sum_by f core.views
-part-le-sum_by f core seat view v =
-    let l = get_or-le-sum_by f core.views seat view (seat_below core seat view v) in
-    rw (get_or_from_slice_get core.views seat view view v.is) at l
+part-le-sum_by f core seat view v = share-le f core.views view (Contains-from_get core.views seat view v.is)
 
 -- the shape of a task is an element
 pub task_at-get_or : (shape : Shape) (task : ℕ) → task_at shape task ≡ get_or shape.tasks task no_task
-task_at-get_or shape task = go shape.tasks task
-  where
-    go : (xs : List TaskShape) (i : ℕ) → or_else no_task (slice_get xs i) ≡ get_or xs i no_task
-    go [] i = refl
-    go (x ∷ xs) zero = refl
-    go (x ∷ xs) (suc i) = go xs i
+task_at-get_or shape task = or_else-get_or no_task shape.tasks task

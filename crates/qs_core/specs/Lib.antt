@@ -6,7 +6,5 @@ pub mod Sound
 pub mod Steps
 pub mod Blocks
 pub mod Machine
-pub mod Listed
 pub mod Held
-pub mod States
 pub mod Family

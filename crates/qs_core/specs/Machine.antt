@@ -17,6 +17,10 @@ pub record Machine : Type 0 where
   pub core : Core
   pub notes : List (Option Note)
 
+-- the machine that these lists make
+abbrev pub machine_of : Shape → List ℕ → List View → List (Option Note) → Machine
+machine_of shape words views notes = record { shape = shape; core = record { words = words; views = views }; notes = notes }
+
 abbrev pub kind_of : Step → StepKind
 kind_of (Lock cell) = Kind.Lock
 kind_of Raise = Kind.Raise

@@ -16,6 +16,10 @@ pub record Shape : Type 0 where
   pub leaves : ℕ
   pub tasks : List TaskShape
 
+-- the shape that these lists make
+abbrev pub shape_of : List (Option ℕ) → List (ℕ × ℕ) → ℕ → List TaskShape → Shape
+shape_of parents ranges leaves tasks = record { parents = parents; ranges = ranges; leaves = leaves; tasks = tasks }
+
 abbrev pub no_task : TaskShape
 no_task = record { first = 0; second = None; successors = []; weight = 0 }
 
@@ -55,6 +59,11 @@ pub record AreApart (shape : Shape) (a b : ℕ) : Type 0 where
 pub record IsBelow (shape : Shape) (leaf cell : ℕ) : Type 0 where
   pub from : (range_of shape cell).0 ≤ leaf
   pub to : leaf < (range_of shape cell).1
+
+-- there is a cell and the leaf is below it
+abbrev pub IsBelowSome : Shape → ℕ → Option ℕ → Type 0
+IsBelowSome shape leaf None = ⊥
+IsBelowSome shape leaf (Some cell) = IsBelow shape leaf cell
 
 -- the leaves below a cell, in order, and those that a task touches: below its first cell, then below its second
 abbrev pub leaves_below : Shape → ℕ → List ℕ

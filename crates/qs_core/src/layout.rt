@@ -1,9 +1,8 @@
 //! What is scheduled, as the machine keeps it.
 ghost use Rattle.std.specs.Prelude.{◌≡◌, ◌<◌, ◌↔◌, ◌++◌, ℕ, length, IfOk, IsTrue, OnOk, Some, slice_index};
-ghost use Rattle.qs_core.specs.Shape.{AreApart, CellContains, IsBelow, IsShape, Touches, ancestors, leaves_of, leaves_of_other, parent_of, range_of, task_at};
+ghost use Rattle.qs_core.specs.Shape.{AreApart, CellContains, IsBelow, IsBelowSome, IsShape, Touches, ancestors, leaves_of, leaves_of_other, parent_of, range_of, task_at};
 ghost use Rattle.qs_core.specs.Core.{cell_word, leaf_word, task_word};
 ghost use Rattle.qs_core.specs.Steps.{word_of};
-ghost use Rattle.qs_core.specs.Listed.{IsBelowSome};
 ghost use Rattle.qs_core.specs.Held.{IsEither};
 
 use crate::event::Step;
@@ -72,8 +71,7 @@ pub struct Layout {
 }
 
 impl Model for Layout {
-    ghost use Rattle.qs_core.specs.Shape.{Shape, IsShape};
-    ghost use Rattle.qs_core.specs.Listed.{shape_of};
+    ghost use Rattle.qs_core.specs.Shape.{Shape, IsShape, shape_of};
 
     ghost Value = { Shape };
 

@@ -31,8 +31,7 @@ pub struct State {
 }
 
 impl Model for State {
-    ghost use Rattle.qs_core.specs.Machine.{Machine, IsMachine};
-    ghost use Rattle.qs_core.specs.States.{machine_of};
+    ghost use Rattle.qs_core.specs.Machine.{Machine, IsMachine, machine_of};
 
     ghost Value = { Machine };
 

@@ -190,20 +190,20 @@ fn works_on(alloc: Global, work: &Family, state: &mut State, task: u32) -> Resul
     Ok(claimed && fetched && returned)
 }
 
-/// Plays a step on the cells alone: whether it was allowed and left these words of the cells.
+/// Plays a step on the cells alone: the words of the cells after it, where it was allowed.
 fn leads_to(
     alloc: Global,
     state: &mut State,
     seat: u32,
     next: Step,
-    after: [u64; 4],
-) -> Result<bool, AllocError>
+) -> Result<Option<[u64; 4]>, AllocError>
     requires { state.old.shape ≡ family false false }
     ensures shape { state.new.shape ≡ family false false }
     ensures seats { length state.new.core.views ≡ length state.old.core.views }
 {
     let allowed = step(alloc, &CELLS, state, seat, next)?;
-    Ok(allowed && words(&CELLS, state) == after)
+    let after = words(&CELLS, state);
+    Ok(if allowed { Some(after) } else { None })
 }
 
 /// A note that a seat has.
@@ -221,22 +221,40 @@ fn a_raise_finds_a_lock_and_gives_way(rt: HostRuntime) -> Result<(), Fail> {
     let alloc = rt.alloc();
     let mut state = State::new(alloc, &CELLS, 3)?;
     let state = &mut state;
-    assert!(rt; leads_to(alloc, state, 0, Step::Lock { cell: 0 }, [1, 0, 0, 0])?);
+    assert_eq!(rt;
+        leads_to(alloc, state, 0, Step::Lock { cell: 0 })?,
+        Some([1, 0, 0, 0])
+    );
     assert!(rt; state.owns(0, 0));
-    assert!(rt; leads_to(alloc, state, 1, Step::Lock { cell: 2 }, [1, 0, 1, 0])?);
-    assert!(rt; leads_to(alloc, state, 1, Step::Raise, [1, 2, 1, 0])?);
-    assert!(rt; leads_to(alloc, state, 1, Step::Raise, [3, 2, 1, 0])?);
+    assert_eq!(rt;
+        leads_to(alloc, state, 1, Step::Lock { cell: 2 })?,
+        Some([1, 0, 1, 0])
+    );
+    assert_eq!(rt; leads_to(alloc, state, 1, Step::Raise)?, Some([1, 2, 1, 0]));
+    assert_eq!(rt; leads_to(alloc, state, 1, Step::Raise)?, Some([3, 2, 1, 0]));
     assert_eq!(rt; state.note(1), noted(3, StepKind::Raise, 0, 1));
     assert!(rt; !state.owns(1, 2));
-    assert!(rt; leads_to(alloc, state, 0, Step::Unlock, [2, 2, 1, 0])?);
-    assert!(rt; leads_to(alloc, state, 2, Step::Lock { cell: 0 }, [2, 2, 1, 0])?);
+    assert_eq!(rt;
+        leads_to(alloc, state, 0, Step::Unlock)?,
+        Some([2, 2, 1, 0])
+    );
+    assert_eq!(rt;
+        leads_to(alloc, state, 2, Step::Lock { cell: 0 })?,
+        Some([2, 2, 1, 0])
+    );
     assert_eq!(rt; state.note(2), noted(1, StepKind::Lock, 0, 2));
     assert!(rt; !state.owns(2, 0));
-    assert!(rt; leads_to(alloc, state, 1, Step::Lower, [0, 2, 1, 0])?);
-    assert!(rt; leads_to(alloc, state, 2, Step::Lock { cell: 0 }, [1, 2, 1, 0])?);
+    assert_eq!(rt; leads_to(alloc, state, 1, Step::Lower)?, Some([0, 2, 1, 0]));
+    assert_eq!(rt;
+        leads_to(alloc, state, 2, Step::Lock { cell: 0 })?,
+        Some([1, 2, 1, 0])
+    );
     assert!(rt; state.owns(2, 0));
-    assert!(rt; leads_to(alloc, state, 1, Step::Lower, [1, 0, 1, 0])?);
-    assert!(rt; leads_to(alloc, state, 1, Step::Unlock, [1, 0, 0, 0])?);
+    assert_eq!(rt; leads_to(alloc, state, 1, Step::Lower)?, Some([1, 0, 1, 0]));
+    assert_eq!(rt;
+        leads_to(alloc, state, 1, Step::Unlock)?,
+        Some([1, 0, 0, 0])
+    );
     assert!(rt; !step(alloc, &CELLS, state, 1, Step::Raise)?);
     assert_eq!(rt; words(&CELLS, state), [1, 0, 0, 0]);
     assert_eq!(rt; state.note(1), noted(6, StepKind::Unlock, 2, 1));

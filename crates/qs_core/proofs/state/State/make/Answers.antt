@@ -1,7 +1,6 @@
 use Rattle.std.proofs.Common.{◌≡◌, sym, ap, subst, ◌∙◌, arith}
-use Rattle.qs_core.specs.Machine.{IsMachine, note_of, played}
+use Rattle.qs_core.specs.Machine.{IsMachine, machine_of, note_of, played}
 use Rattle.qs_core.specs.Steps.{IsAllowed}
-use Rattle.qs_core.specs.States.{machine_of}
 use Rattle.qs_core.proofs.Played.{machine_kept, place_below, played_parts, read_view}
 use Rattle.qs_core.proofs.state.State.make.Goals as goal
 
