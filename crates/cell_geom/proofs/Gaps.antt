@@ -5,7 +5,7 @@ use Rattle.std.proofs.lemmas.Nat.{mul-le}
 use Rattle.sph_num.specs.Space.{IsPlace, axis2}
 use Rattle.cell_geom.specs.declared.cube.Cube.{Cube}
 use Rattle.cell_geom.specs.Cube.{cube_holds}
-use Rattle.cell_geom.specs.Gap.{apart, AreEnds, IsAxisGap, slackened, IsGap2, IsMoved, KeepsGap}
+use Rattle.cell_geom.specs.Gap.{IsOnAxis, apart, AreEnds, IsAxisGap, slackened, IsGap2, IsMoved, KeepsGap}
 use Rattle.cell_geom.proofs.Ring.{apart_is, apart_self, apart-comm, apart_moved}
 
 -- a cube below another on an axis: the nearest coordinates are the ends that face each other, one way round or the other
@@ -87,19 +87,24 @@ IsGap2-unique a b slack gap2 gap2' is is' =
     cc (is.sum, is'.sum)
 
 -- a place's coordinates
-coordinate-lt : (place : List ℕ) (axis : ℕ) → IsPlace place → axis < 3 → get_or place axis 0 < 2 ^ 20
+pub coordinate-lt : (place : List ℕ) (axis : ℕ) → IsPlace place → axis < 3 → get_or place axis 0 < 2 ^ 20
 coordinate-lt place axis is low = is.1 axis 0 (omega (arith, is.0))
 
+-- no coordinates of two cubes are nearer than the gap
+abbrev pub NoneNearer : Cube → Cube → ℕ → ℕ → Type 0
+NoneNearer a b axis gap = (x y : ℕ) → IsOnAxis a axis x → IsOnAxis b axis y → gap ≤ apart x y
+
 -- on one axis, points that two cubes hold keep the gap as they move
-axis_keeps : (a b : Cube) (slack axis gap : ℕ) (p q p' q' : List ℕ) → axis < 3 → cube_holds a p → cube_holds b q → IsMoved slack p p' → IsMoved slack q q' → IsAxisGap a b axis gap → slackened gap slack ≤ axis2 p' q' axis
-axis_keeps a b slack axis gap p q p' q' low held_p held_q moved_p moved_q is =
+axis_keeps : (a b : Cube) (slack axis gap : ℕ) (p q p' q' : List ℕ) → axis < 3 → NoneNearer a b axis gap → cube_holds a p → cube_holds b q → IsMoved slack p p' → IsMoved slack q q'
+    → slackened gap slack ≤ axis2 p' q' axis
+axis_keeps a b slack axis gap p q p' q' low least held_p held_q moved_p moved_q =
     let x = get_or p axis 0 in
     let y = get_or q axis 0 in
     let x' = get_or p' axis 0 in
     let y' = get_or q' axis 0 in
     let low_x = coordinate-lt p axis moved_p.was low in
     let low_y = coordinate-lt q axis moved_q.was low in
-    let before = is.least x y (record { in_box = low_x; held = held_p axis low }) (record { in_box = low_y; held = held_q axis low }) in
+    let before = least x y (record { in_box = low_x; held = held_p axis low }) (record { in_box = low_y; held = held_q axis low }) in
     let after = apart_moved x y x' y' low_x low_y (coordinate-lt p' axis moved_p.now low) (coordinate-lt q' axis moved_q.now low) in
     let near : gap - 2 * slack ≤ apart x' y' = omega (arith, moved_p.near axis low, moved_q.near axis low) in
     mul-le (gap - 2 * slack) (gap - 2 * slack) (apart x' y') (apart x' y') near near
@@ -108,10 +113,14 @@ axis_keeps a b slack axis gap p q p' q' low held_p held_q moved_p moved_q is =
 sum3-le : (a b c l m n s : ℕ) → a + b + c ≡ s → a ≤ l → b ≤ m → c ≤ n → s ≤ l + m + n
 sum3-le a b c l m n s is p q r = omega arith
 
+-- so in the box they keep the squares of the three gaps
+pub KeepsGap-from_axes : (a b : Cube) (slack x y z gap2 : ℕ) → slackened x slack + slackened y slack + slackened z slack ≡ gap2 → NoneNearer a b 0 x → NoneNearer a b 1 y → NoneNearer a b 2 z → KeepsGap a b slack gap2
+KeepsGap-from_axes a b slack x y z gap2 sum on_x on_y on_z p q p' q' held_p held_q moved_p moved_q =
+    sum3-le (slackened x slack) (slackened y slack) (slackened z slack) (axis2 p' q' 0) (axis2 p' q' 1) (axis2 p' q' 2) gap2 sum
+    (axis_keeps a b slack 0 x p q p' q' (omega arith) on_x held_p held_q moved_p moved_q)
+    (axis_keeps a b slack 1 y p q p' q' (omega arith) on_y held_p held_q moved_p moved_q)
+    (axis_keeps a b slack 2 z p q p' q' (omega arith) on_z held_p held_q moved_p moved_q)
+
 -- moved points keep the gap
 pub KeepsGap-from_IsGap2 : (a b : Cube) (slack gap2 : ℕ) → IsGap2 a b slack gap2 → KeepsGap a b slack gap2
-KeepsGap-from_IsGap2 a b slack gap2 is p q p' q' held_p held_q moved_p moved_q =
-    sum3-le (slackened is.on_x slack) (slackened is.on_y slack) (slackened is.on_z slack) (axis2 p' q' 0) (axis2 p' q' 1) (axis2 p' q' 2) gap2 is.sum
-    (axis_keeps a b slack 0 is.on_x p q p' q' (omega arith) held_p held_q moved_p moved_q is.x_is)
-    (axis_keeps a b slack 1 is.on_y p q p' q' (omega arith) held_p held_q moved_p moved_q is.y_is)
-    (axis_keeps a b slack 2 is.on_z p q p' q' (omega arith) held_p held_q moved_p moved_q is.z_is)
+KeepsGap-from_IsGap2 a b slack gap2 is = KeepsGap-from_axes a b slack is.on_x is.on_y is.on_z gap2 is.sum is.x_is.least is.y_is.least is.z_is.least

@@ -4,12 +4,12 @@ use Rattle.std.proofs.lemmas.Nat.{shr-shr}
 use Rattle.cell_geom.specs.declared.cube.Cube.{Cube}
 use Rattle.cell_geom.specs.Cube.{IsCube, side_of, cube_holds, half_of, octant_of, child_of, CubeContains}
 
--- what holds of three axes holds of each
-by_axis : (P : ℕ → Type 0) → P 0 → P 1 → P 2 → (axis : ℕ) → axis < 3 → P axis
-by_axis P x y z zero low = x
-by_axis P x y z (suc zero) low = y
-by_axis P x y z (suc (suc zero)) low = z
-by_axis P x y z (suc (suc (suc n))) low = absurd (omega arith)
+-- what holds on each of three axes
+pub each_axis : (P : ℕ → Type 0) → P 0 → P 1 → P 2 → (axis : ℕ) → axis < 3 → P axis
+each_axis P x y z zero low = x
+each_axis P x y z (suc zero) low = y
+each_axis P x y z (suc (suc zero)) low = z
+each_axis P x y z (suc (suc (suc n))) low = absurd (omega arith)
 
 -- the three halves of an octant
 octant_halves : (a b c : ℕ) → a < 2 → b < 2 → c < 2 → ((a + 2 * b + 4 * c) % 2 ≡ a) × (((a + 2 * b + 4 * c) / 2) % 2 ≡ b) × (((a + 2 * b + 4 * c) / 4) % 2 ≡ c)
@@ -29,7 +29,7 @@ cube_holds-child_of cube point few held =
     let b = half_of cube.level point 1 in
     let c = half_of cube.level point 2 in
     let halves = octant_halves a b c (omega arith) (omega arith) (omega arith) in
-    by_axis (λ axis. get_or point axis 0 / side_of (cube.level + 1) ≡ get_or (child_of cube (octant_of cube.level point)).at axis 0)
+    each_axis (λ axis. get_or point axis 0 / side_of (cube.level + 1) ≡ get_or (child_of cube (octant_of cube.level point)).at axis 0)
     (half_step cube.level (get_or point 0 0) (get_or cube.at 0 0) ((a + 2 * b + 4 * c) % 2) few (held 0 (omega arith)) halves.0)
     (half_step cube.level (get_or point 1 0) (get_or cube.at 1 0) (((a + 2 * b + 4 * c) / 2) % 2) few (held 1 (omega arith)) halves.1)
     (half_step cube.level (get_or point 2 0) (get_or cube.at 2 0) (((a + 2 * b + 4 * c) / 4) % 2) few (held 2 (omega arith)) halves.2)
@@ -45,7 +45,7 @@ half_drops level at half low =
 pub CubeContains-child_of : (cube : Cube) (octant : ℕ) → CubeContains cube (child_of cube octant)
 CubeContains-child_of cube octant = record {
   level = omega arith;
-  within = by_axis (λ axis. get_or (child_of cube octant).at axis 0 / 2 ^ ((cube.level + 1) - cube.level) ≡ get_or cube.at axis 0)
+  within = each_axis (λ axis. get_or (child_of cube octant).at axis 0 / 2 ^ ((cube.level + 1) - cube.level) ≡ get_or cube.at axis 0)
       (half_drops cube.level (get_or cube.at 0 0) (octant % 2) (omega arith))
       (half_drops cube.level (get_or cube.at 1 0) ((octant / 2) % 2) (omega arith))
       (half_drops cube.level (get_or cube.at 2 0) ((octant / 4) % 2) (omega arith));

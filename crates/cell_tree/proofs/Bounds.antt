@@ -1,5 +1,5 @@
 -- How large the numbers of a cell get, and that its members rise.
-use Rattle.std.proofs.Common.{ℕ, ◌+◌, ◌<◌, ◌≤◌, eqb, length, map, get_or, arith}
+use Rattle.std.proofs.Common.{ℕ, ◌<◌, ◌≤◌, eqb, length, map, get_or, arith}
 use Rattle.std.specs.List.{All}
 use Rattle.std.specs.List.Sorted.{IsStrictlyIncreasing}
 use Rattle.std.proofs.lemmas.List.{length-map}
@@ -9,16 +9,10 @@ use Rattle.std.proofs.lemmas.List.Sums.{length-filter, count_by-le-length}
 use Rattle.sph_num.specs.Ranges.{IsLength}
 use Rattle.sph_num.proofs.Extremes.{greatest_of_within}
 use Rattle.cell_tree.specs.Laws.{CanBeMade}
-use Rattle.cell_tree.specs.Tree.{Made, cells_of, cell_at, numbers_from, reach_of}
+use Rattle.cell_tree.specs.Tree.{Made, cells_of, cell_at, reach_of}
 use Rattle.cell_tree.proofs.Counts.{octant_in}
-use Rattle.cell_tree.proofs.Members.{root, sound_at, length-numbers_from, get_or-numbers_from}
+use Rattle.cell_tree.proofs.Members.{root, sound_at, length-numbers_from, numbers_rise}
 use Rattle.cell_tree.proofs.Shape.{each_below}
-
--- numbers from 0 on rise
-numbers_rise : (n : ℕ) → IsStrictlyIncreasing (numbers_from 0 n)
-numbers_rise n k l =
-    let e = length-numbers_from 0 n in
-    omega (arith, get_or-numbers_from 0 n k 0 (omega arith), get_or-numbers_from 0 n (k + 1) 0 (omega arith))
 
 -- the members of a cell rise
 pub members_rise : (made : Made) (cell : ℕ) → cell < length (cells_of made) → IsStrictlyIncreasing (cell_at made cell).members

@@ -1,15 +1,9 @@
 -- How the cubes of the box nest.
-use Rattle.std.proofs.Common.{◌≡◌, ℕ, zero, suc, ◌+◌, ◌-◌, ◌*◌, ◌/◌, ◌%◌, ◌^◌, ◌<◌, ◌≤◌, List, slice_index, refl, sym, ap, ◌∙◌, arith}
+use Rattle.std.proofs.Common.{◌≡◌, ℕ, ◌+◌, ◌-◌, ◌*◌, ◌/◌, ◌%◌, ◌^◌, ◌<◌, ◌≤◌, List, slice_index, refl, sym, ap, ◌∙◌, arith}
 use Rattle.std.proofs.lemmas.Nat.{shr-shr, pow-add}
 use Rattle.cell_geom.specs.declared.cube.Cube.{Cube}
-use Rattle.cell_geom.specs.Cube.{IsCube, side_of, cube_holds, half_of, octant_of, child_of, CubeContains}
-
--- what holds on each of three axes
-each_axis : (P : ℕ → Type 0) → P 0 → P 1 → P 2 → (axis : ℕ) → axis < 3 → P axis
-each_axis P x y z zero h = x
-each_axis P x y z (suc zero) h = y
-each_axis P x y z (suc (suc zero)) h = z
-each_axis P x y z (suc (suc (suc n))) h = absurd (omega arith)
+use Rattle.cell_geom.specs.Cube.{IsCube, cube_holds, octant_of, child_of, CubeContains}
+use Rattle.cell_geom.proofs.Nesting.{each_axis}
 
 -- a shift by nothing
 shr_zero : (x l : ℕ) → x / 2 ^ (l - l) ≡ x
@@ -18,10 +12,6 @@ shr_zero x l = let e : l - l ≡ 0 = omega arith in rw e (omega arith)
 -- two shifts are one
 shr_twice : (x i j k : ℕ) → i + j ≡ k → x / 2 ^ i / 2 ^ j ≡ x / 2 ^ k
 shr_twice x i j k e = rw (← e) (shr-shr x i j)
-
--- a shift by one level
-shr_one : (x l : ℕ) → x / 2 ^ (l + 1 - l) ≡ x / 2
-shr_one x l = let e : l + 1 - l ≡ 1 = omega arith in rw e refl
 
 -- a cube contains itself
 pub CubeContains-self : (c : Cube) → CubeContains c c
@@ -49,14 +39,6 @@ CubeContains-turned a b e p = record {
       rw e' (omega arith);
 }
 
--- a cube contains the cubes of its octants
-pub CubeContains-child : (c : Cube) (o : ℕ) → CubeContains c (child_of c o)
-CubeContains-child c o = record {
-  level = omega arith;
-  within = each_axis (λ axis. slice_index (child_of c o).at axis / 2 ^ (c.level + 1 - c.level) ≡ slice_index c.at axis)
-      (shr_one _ c.level ∙ omega arith) (shr_one _ c.level ∙ omega arith) (shr_one _ c.level ∙ omega arith);
-}
-
 -- no cube lies in two octants
 pub child_apart : (c x : Cube) (o p : ℕ) → o < 8 → p < 8 → CubeContains (child_of c o) x → CubeContains (child_of c p) x → o ≡ p
 child_apart c x o p lo lp q r =
@@ -81,22 +63,6 @@ IsCube-child c o l h = record {
 -- there are eight octants
 pub octant-below : (level : ℕ) (point : List ℕ) → octant_of level point < 8
 octant-below level point = omega arith
-
--- a point's place on the level below is twice its place, and its half
-half_split : (level x at : ℕ) → level < 10 → x / side_of level ≡ at → x / side_of (level + 1) ≡ 2 * at + (x / side_of (level + 1)) % 2
-half_split level x at l h =
-    let e = shr_twice x (20 - (level + 1)) 1 (20 - level) (omega arith) in
-    let f : x / 2 ^ (20 - (level + 1)) / 2 ≡ at = e ∙ h in
-    omega arith
-
--- the octant of a point in the cube that holds it holds it too
-pub cube_holds-child : (c : Cube) (point : List ℕ) → c.level < 10 → cube_holds c point → cube_holds (child_of c (octant_of c.level point)) point
-cube_holds-child c point l h =
-    let x : slice_index point 0 / side_of (c.level + 1) ≡ 2 * slice_index c.at 0 + half_of c.level point 0 = half_split c.level _ _ l (h 0 (omega arith)) in
-    let y : slice_index point 1 / side_of (c.level + 1) ≡ 2 * slice_index c.at 1 + half_of c.level point 1 = half_split c.level _ _ l (h 1 (omega arith)) in
-    let z : slice_index point 2 / side_of (c.level + 1) ≡ 2 * slice_index c.at 2 + half_of c.level point 2 = half_split c.level _ _ l (h 2 (omega arith)) in
-    each_axis (λ axis. slice_index point axis / side_of (c.level + 1) ≡ slice_index (child_of c (octant_of c.level point)).at axis)
-    (x ∙ omega arith) (y ∙ omega arith) (z ∙ omega arith)
 
 -- of two cubes that hold a point the larger contains the other
 pub CubeContains-holding : (a b : Cube) (point : List ℕ) → a.level ≤ b.level → b.level ≤ 10 → cube_holds a point → cube_holds b point → CubeContains a b

@@ -22,6 +22,22 @@ due_member made due cell t =
 due_from_member : (made : Made) (due : List Bool) (cell index : ℕ) → Contains (cell_at made cell).members index → get_or due index false ≡ true → has_due made due cell ≡ true
 due_from_member made due cell index c t = list_any-from_Any (λ i. get_or due i false) (cell_at made cell).members (c.0, index, c.1, c.2, t)
 
+module _ (made : Made) (due : List Bool) (before : List ℕ) (counts : AreDueBefore made due before) where
+  -- the counts do not fall
+  counts_grow : (from k : ℕ) → from + k ≤ leaf_count made → get_or before from 0 ≤ get_or before (from + k) 0
+  counts_grow from zero l = let e : from + 0 ≡ from = omega arith in rw e (omega arith)
+  counts_grow from (suc k) l =
+      let ih = counts_grow from k (omega arith) in
+      let w = counts.each (from + k) (omega arith) in
+      let s = w.step in
+      let e : from + suc k ≡ from + k + 1 = omega arith in
+      rw e (omega arith)
+
+  pub counts_rise : (i j : ℕ) → i ≤ j → j ≤ leaf_count made → get_or before i 0 ≤ get_or before j 0
+  counts_rise i j l m =
+      let e : i + (j - i) ≡ j = omega arith in
+      let g = counts_grow i (j - i) (omega arith) in rw e at g
+
 module _ (made : Made) (can : CanBeMade made) (due : List Bool) where
   -- a leaf's due member is one of each cell that contains it
   due_outer : (cell at : ℕ) → cell < length (cells_of made) → at < length (cells_of made) → Holds (cell_at made cell) (cell_at made at) → has_due made due at ≡ true → has_due made due cell ≡ true
@@ -56,21 +72,6 @@ module _ (made : Made) (can : CanBeMade made) (due : List Bool) where
         let w = counts.each leaf l in
         w.step ∙ ap (λ k. get_or before leaf 0 + (if has_due made due k then 1 else 0)) (one_cell made leaf w.cell at w.is is)
 
-    -- the counts do not fall
-    counts_grow : (from k : ℕ) → from + k ≤ leaf_count made → get_or before from 0 ≤ get_or before (from + k) 0
-    counts_grow from zero l = let e : from + 0 ≡ from = omega arith in rw e (omega arith)
-    counts_grow from (suc k) l =
-        let ih = counts_grow from k (omega arith) in
-        let w = counts.each (from + k) (omega arith) in
-        let s = w.step in
-        let e : from + suc k ≡ from + k + 1 = omega arith in
-        rw e (omega arith)
-
-    counts-le : (i j : ℕ) → i ≤ j → j ≤ leaf_count made → get_or before i 0 ≤ get_or before j 0
-    counts-le i j l m =
-        let e : i + (j - i) ≡ j = omega arith in
-        let g = counts_grow i (j - i) (omega arith) in rw e at g
-
     -- over leaves with no due member they stay
     counts_stay : (from k : ℕ) → from + k ≤ leaf_count made → ((leaf at : ℕ) → from ≤ leaf → leaf < from + k → IsLeafCell made leaf at → has_due made due at ≡ false) → get_or before (from + k) 0 ≡ get_or before from 0
     counts_stay from zero l h = let e : from + 0 ≡ from = omega arith in rw e refl
@@ -94,8 +95,8 @@ module _ (made : Made) (can : CanBeMade made) (due : List Bool) where
               let high = o.1 in
               let low = o.0 in
               let s : get_or before (w.0 + 1) 0 ≡ get_or before w.0 0 + 1 = step_of w.0 w.1 w.2 (omega arith) ∙ ap (λ b. get_or before w.0 0 + (if b then 1 else 0)) w.4 in
-              let a = counts-le from w.0 low (omega arith) in
-              let b = counts-le (w.0 + 1) to (omega arith) within in
+              let a = counts_rise made due before counts from w.0 low (omega arith) in
+              let b = counts_rise made due before counts (w.0 + 1) to (omega arith) within in
               lt-ltb (get_or before from 0) (get_or before to 0) (omega arith) ∙ sym t
           | inr f ↦
               let e : from + (to - from) ≡ to = omega arith in

@@ -3,7 +3,7 @@ use Rattle.std.proofs.Common.{◌≡◌, ℕ, ◌+◌, ◌-◌, ◌<◌, ◌≤�
 use Rattle.std.specs.List.{Contains, slice_range}
 use Rattle.std.specs.List.Sorted.{IsStrictlyIncreasing}
 use Rattle.std.proofs.lemmas.Bool.{cases_lt, cases_eq, cases_order}
-use Rattle.std.proofs.lemmas.List.{append-nil, get_or_append_left, get_or_push, get_or-set_same, get_or-set_other, length-set, length_push, drop-append-le, take-append-le, length-drop, drop_at, take_all, drop_all, get_or_default}
+use Rattle.std.proofs.lemmas.List.{append-nil, get_or_append_left, get_or_push, get_or-set_same, get_or-set_other, length-set, length_push, drop-append-le, take-append-le, length-drop, drop_at, take_all, get_or_default}
 use Rattle.std.proofs.lemmas.List.Elements.{Contains-append_left, Contains-push, Contains-push_cases}
 use Rattle.cell_tree.specs.Parts.{AreChildren, KnowsParents, AddsChildren, AreChildrenOf}
 use Rattle.cell_tree.specs.Tree.{Made, cells_of, IsParent}
@@ -190,8 +190,3 @@ AreChildrenOf-more made cell starts starts' numbers numbers' h a e = record {
         ap (λ ns. slice_range ns (get_or starts' cell 0) (get_or starts' (cell + 1) 0)) a.joined
         ∙ slice_range-end numbers a.added (get_or starts' cell 0) (get_or starts' (cell + 1) 0) (kept cell (omega arith) ∙ h.last) (last ∙ ap length a.joined) in
         subst (λ c. AreChildren made c (slice_range numbers' (get_or starts' c 0) (get_or starts' (c + 1) 0))) (sym s) (subst (AreChildren made cell) (sym same) a.are)
-
--- a list of one length, written over another's front
-pub written_back : (n : ℕ) (xs ys : List ℕ) → n ≡ length xs → length ys ≡ length xs → take n (ys ++ drop (length ys) xs) ≡ ys
-written_back n xs ys e f =
-    ap (λ zs. take n (ys ++ zs)) (drop_all (length ys) xs (omega arith)) ∙ ap (take n) (append-nil ys) ∙ take_all n ys (omega arith)

@@ -9,7 +9,7 @@ use Rattle.cell_tree.specs.Spans.{is_leaf_cell, leaf_cells}
 use Rattle.cell_tree.specs.Tree.{Made, cells_of, cell_at, no_cell, is_leaf, leaf_count, leaves_before, numbers_from, AreLeavesBelow, IsLeafCell}
 use Rattle.cell_tree.proofs.Cubes.{CubeContains-trans, CubeContains-sharing}
 use Rattle.cell_tree.proofs.LeafCounts.{leaves_before-all, leaves_before-le, leaves_before-leaf}
-use Rattle.cell_tree.proofs.Members.{length-numbers_from, get_or-numbers_from}
+use Rattle.cell_tree.proofs.Members.{length-numbers_from, number_at}
 use Rattle.cell_tree.proofs.Shape.{Holds}
 
 module _ {X : Type 0} (p : X → Bool) where
@@ -60,10 +60,6 @@ module _ {X : Type 0} (p : X → Bool) where
       first t (suc k) ih =
           let w = ih k refl in
           record { place = suc w.place; within = let m = w.within in omega arith; passes = w.passes; count = count_by-yes x (take w.place xs) t ∙ ap suc w.count }
-
--- the number at a place of those from 0 on
-number_at : (n k d : ℕ) → k < n → get_or (numbers_from 0 n) k d ≡ k
-number_at n k d l = get_or-numbers_from 0 n k d l ∙ omega arith
 
 -- what passes is counted by its places too
 count_places : {X : Type 0} (p : X → Bool) (d : X) (xs : List X) (k : ℕ) → k ≤ length xs → count_by (λ i. p (get_or xs i d)) (take k (numbers_from 0 (length xs))) ≡ count_by p (take k xs)

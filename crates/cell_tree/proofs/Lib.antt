@@ -10,6 +10,7 @@ pub mod LeafCounts
 pub mod Members
 pub mod Nest
 pub mod OctantLists
+pub mod OnePlace
 pub mod Orders
 pub mod Partition
 pub mod Rising

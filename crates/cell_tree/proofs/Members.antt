@@ -1,15 +1,18 @@
 -- Which points the cells of a tree have as their members.
 use Rattle.std.proofs.Common.{◌≡◌, ℕ, zero, suc, ◌+◌, ◌/◌, ◌^◌, ◌<◌, ◌≤◌, true, false, eqb, List, [], ◌∷◌, length, get_or, slice_index, slice_index_or, refl, sym, ap, ◌∙◌, subst, inl, inr, length-append, arith}
 use Rattle.std.specs.List.{Contains}
+use Rattle.std.specs.List.Sorted.{IsStrictlyIncreasing}
 use Rattle.std.proofs.lemmas.Bool.{cases_eq, eqb-true, eq-eqb, ne_eqb}
 use Rattle.std.proofs.lemmas.List.{get_or_append_left, get_or-append-add}
 use Rattle.sph_num.proofs.Members.{cases_Contains-cons, Contains-nil, Contains-later, Contains-filter, Contains-from_filter, passes_from_filter}
 use Rattle.cell_geom.specs.Cube.{cube_holds, child_of}
+use Rattle.cell_geom.proofs.Gaps.{coordinate-lt}
+use Rattle.cell_geom.proofs.Nesting.{each_axis, cube_holds-child_of}
 use Rattle.cell_tree.specs.Tree.{Made, Cell, child_cell, cells_of, cell_at, root_cube, numbers_from, no_cell, is_leaf}
 use Rattle.cell_tree.specs.Laws.{CanBeMade}
 use Rattle.cell_tree.specs.Nodes.{IsSound}
 use Rattle.cell_tree.specs.Under.{cells_under, cells_in, cells_of_octants}
-use Rattle.cell_tree.proofs.Cubes.{octant-below, IsCube-child, cube_holds-child}
+use Rattle.cell_tree.proofs.Cubes.{octant-below, IsCube-child}
 use Rattle.cell_tree.proofs.Counts.{octant_in}
 use Rattle.cell_tree.proofs.Shape.{at, each_below}
 use Rattle.cell_tree.proofs.Under.{IsSplit, cells_under_induction}
@@ -24,6 +27,16 @@ pub get_or-numbers_from : (first n k d : ℕ) → k < n → get_or (numbers_from
 get_or-numbers_from first zero k d l = absurd (omega arith)
 get_or-numbers_from first (suc n) zero d l = omega arith
 get_or-numbers_from first (suc n) (suc k) d l = get_or-numbers_from (suc first) n k d (omega arith) ∙ omega arith
+
+-- the number at a place of those from 0 on
+pub number_at : (n k d : ℕ) → k < n → get_or (numbers_from 0 n) k d ≡ k
+number_at n k d l = get_or-numbers_from 0 n k d l ∙ omega arith
+
+-- numbers from 0 on rise
+pub numbers_rise : (n : ℕ) → IsStrictlyIncreasing (numbers_from 0 n)
+numbers_rise n k l =
+    let long = length-numbers_from 0 n in
+    omega (arith, number_at n k 0 (omega arith), number_at n (k + 1) 0 (omega arith))
 
 -- the numbers from the first on are no less, and below their end
 pub Contains-numbers_from-le : (first n i : ℕ) → Contains (numbers_from first n) i → (first ≤ i) × (i < first + n)
@@ -58,7 +71,7 @@ IsSound-child made cell octant s split l some = record {
       let p = λ (i : ℕ). eqb (octant_in made cell i) octant in
       let w = s.members index (Contains-from_filter p cell.members index c) in
       let e = eqb-true (octant_in made cell index) octant (passes_from_filter p cell.members index c) in
-      (w.0, subst (λ o. cube_holds (child_of cell.cube o) (slice_index_or made.points index [])) e (cube_holds-child cell.cube (slice_index_or made.points index []) split.level w.1));
+      (w.0, subst (λ o. cube_holds (child_of cell.cube o) (slice_index_or made.points index [])) e (cube_holds-child_of cell.cube (slice_index_or made.points index []) split.level w.1));
 }
 
 -- the cells below a sound cell are sound
@@ -81,14 +94,11 @@ IsSound-root made can = record {
   members = λ index c.
       let l = below_from_numbers (length made.points) index c in
       let place = can.places index l in
-      (l, λ axis h. place_at_zero _ (place.1 axis 0 (omega (arith, place.0))) ∙ sym (zero_at axis h));
+      (l, λ axis h. place_at_zero _ (coordinate-lt (slice_index_or made.points index []) axis place h) ∙ sym (zero_at axis h));
 }
   where
     zero_at : (axis : ℕ) → axis < 3 → slice_index (0 ∷ 0 ∷ 0 ∷ []) axis ≡ 0
-    zero_at zero h = refl
-    zero_at (suc zero) h = refl
-    zero_at (suc (suc zero)) h = refl
-    zero_at (suc (suc (suc n))) h = absurd (omega arith)
+    zero_at = each_axis (λ axis. slice_index (0 ∷ 0 ∷ 0 ∷ []) axis ≡ 0) refl refl refl
 
     zeros : (axis : ℕ) → axis < 3 → slice_index (0 ∷ 0 ∷ 0 ∷ []) axis < 1
     zeros axis h = omega (arith, zero_at axis h)

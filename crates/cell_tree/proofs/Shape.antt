@@ -3,9 +3,10 @@ use Rattle.std.proofs.Common.{◌≡◌, ℕ, zero, suc, ◌+◌, ◌<◌, ◌�
 use Rattle.std.proofs.lemmas.List.{get_or_append_left, get_or-append-add}
 use Rattle.std.proofs.lemmas.Bool.{cases_Bool, eqb-false}
 use Rattle.cell_geom.specs.Cube.{child_of, CubeContains}
+use Rattle.cell_geom.proofs.Nesting.{CubeContains-child_of}
 use Rattle.cell_tree.specs.Tree.{Made, Cell, child_cell, no_cell}
 use Rattle.cell_tree.specs.Under.{cells_under, cells_in, cells_of_octants}
-use Rattle.cell_tree.proofs.Cubes.{CubeContains-self, CubeContains-trans, CubeContains-child, child_apart}
+use Rattle.cell_tree.proofs.Cubes.{CubeContains-self, CubeContains-trans, child_apart}
 use Rattle.cell_tree.proofs.Nest.{IsNested, IsNested-nil, IsNested-cons, IsNested-append, each_of_both, cases_place}
 use Rattle.cell_tree.proofs.Under.{IsSplit, IsSplit-from_test, cells_under-leaf, cells_under-split, cells_under_induction}
 
@@ -55,7 +56,7 @@ each_below made Q down cell =
 -- a cell contains all cells below it
 pub contains_below : (made : Made) (cell : Cell) (i : ℕ) → i < length (cells_under made cell) → CubeContains cell.cube (at (cells_under made cell) i).cube
 contains_below made cell =
-    each_below made (λ c. CubeContains cell.cube c.cube) (λ c octant q s l some. CubeContains-trans cell.cube c.cube (child_of c.cube octant) q (CubeContains-child c.cube octant)) cell (CubeContains-self cell.cube)
+    each_below made (λ c. CubeContains cell.cube c.cube) (λ c octant q s l some. CubeContains-trans cell.cube c.cube (child_of c.cube octant) q (CubeContains-child_of c.cube octant)) cell (CubeContains-self cell.cube)
 
 -- the cell lies in one of n octants from the first on
 abbrev IsInOctants : Cell → ℕ → ℕ → Cell → Type 0
@@ -121,7 +122,7 @@ cells_under-nested made =
     (λ i l. lower cell (at (cells_of_octants made cell 0 8) i) (octants_lie made cell 0 8 i l)) (λ i l r. higher cell (at (cells_of_octants made cell 0 8) i) (octants_lie made cell 0 8 i l) r) (octants-nested made cell 0 8 (omega arith) ih))
   where
     lower : (cell c : Cell) → IsInOctants cell 0 8 c → Holds cell c
-    lower cell c w = CubeContains-trans _ _ _ (CubeContains-child cell.cube w.0) w.3
+    lower cell c w = CubeContains-trans _ _ _ (CubeContains-child_of cell.cube w.0) w.3
 
     higher : (cell c : Cell) → IsInOctants cell 0 8 c → Holds c cell → ⊥
     higher cell c w r = let l = (w.3).level in let m = r.level in omega arith
@@ -183,7 +184,7 @@ cells_in-parents made cell octant h =
     ]
   where
     lie : (i : ℕ) → i < length (cells_under made (child_cell made.points cell octant)) → IsChildOrHasParent cell (cells_under made (child_cell made.points cell octant)) i
-    lie zero l = let e = (cells_under-first made (child_cell made.points cell octant)).first in inl (rw e (CubeContains-child cell.cube octant, omega arith))
+    lie zero l = let e = (cells_under-first made (child_cell made.points cell octant)).first in inl (rw e (CubeContains-child_of cell.cube octant, omega arith))
     lie (suc i) l = inr (h (suc i) (omega arith) l)
 
 -- so they have in some octants

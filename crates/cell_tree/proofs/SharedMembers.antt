@@ -4,12 +4,12 @@ use Rattle.std.specs.List.{Contains}
 use Rattle.std.proofs.lemmas.Bool.{eq-eqb}
 use Rattle.sph_num.proofs.Members.{Contains-filter}
 use Rattle.cell_geom.specs.Cube.{cube_holds, octant_of, child_of}
-use Rattle.cell_geom.proofs.Nesting.{cube_holds-outer}
+use Rattle.cell_geom.proofs.Nesting.{cube_holds-child_of, CubeContains-child_of, cube_holds-outer}
 use Rattle.cell_tree.specs.Tree.{Made, Cell, child_cell, cells_of, cell_at}
 use Rattle.cell_tree.specs.Laws.{CanBeMade}
 use Rattle.cell_tree.specs.Nodes.{IsSound}
 use Rattle.cell_tree.proofs.Counts.{octant_in}
-use Rattle.cell_tree.proofs.Cubes.{CubeContains-self, CubeContains-child, CubeContains-holding, child_apart, IsCube-child, octant-below, cube_holds-child}
+use Rattle.cell_tree.proofs.Cubes.{CubeContains-self, CubeContains-holding, child_apart, IsCube-child, octant-below}
 use Rattle.cell_tree.proofs.Members.{Contains-numbers, IsSound-child, IsSound-root, root, sound_at}
 use Rattle.cell_tree.proofs.Shape.{Holds, each_below}
 use Rattle.cell_tree.proofs.Under.{IsSplit}
@@ -27,8 +27,8 @@ IsFilled-child made cell octant filled split l some = record {
       let point = slice_index_or made.points i [] in
       let level = split.level in
       let other = octant_of cell.cube.level point in
-      let outer = cube_holds-outer cell.cube (child_of cell.cube octant) point (IsCube-child cell.cube octant split.level filled.sound.in_box) (CubeContains-child cell.cube octant) h in
-      let inner = cube_holds-child cell.cube point split.level outer in
+      let outer = cube_holds-outer cell.cube (child_of cell.cube octant) point (IsCube-child cell.cube octant split.level filled.sound.in_box) (CubeContains-child_of cell.cube octant) h in
+      let inner = cube_holds-child_of cell.cube point split.level outer in
       let lies = CubeContains-holding (child_of cell.cube other) (child_of cell.cube octant) point (omega arith) (omega arith) inner h in
       let same = child_apart cell.cube (child_of cell.cube octant) other octant (octant-below cell.cube.level point) l lies (CubeContains-self (child_of cell.cube octant)) in
       Contains-filter (λ k. eqb (octant_in made cell k) octant) cell.members i (eq-eqb other octant same) (filled.all i m outer);

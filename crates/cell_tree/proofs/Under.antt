@@ -1,14 +1,9 @@
 -- The cells below one cell, by induction.
-use Rattle.std.proofs.Common.{◌≡◌, ℕ, zero, suc, ◌+◌, ◌-◌, ◌<◌, Bool, true, false, ◌||◌, leb, List, [], ◌∷◌, length, refl, sym, subst, inl, inr, arith}
+use Rattle.std.proofs.Common.{◌≡◌, ℕ, zero, suc, ◌+◌, ◌-◌, ◌<◌, true, false, leb, List, [], ◌∷◌, length, refl, sym, subst, inl, inr, arith}
 use Rattle.std.specs.List.{flat_map}
-use Rattle.std.proofs.lemmas.Bool.{cases_Bool, leb-true, leb-false, true≢false, or_cases}
+use Rattle.std.proofs.lemmas.Bool.{cases_Bool, leb-true, leb-false, or_cases, or_parts}
 use Rattle.cell_tree.specs.Tree.{Made, Cell, subtree, child_cell, numbers_from, is_leaf}
 use Rattle.cell_tree.specs.Under.{cells_under, cells_in}
-
--- neither of two tests passes
-or_false : (x y : Bool) → (x || y) ≡ false → (x ≡ false) × (y ≡ false)
-or_false true y h = absurd (true≢false h)
-or_false false y h = (refl, h)
 
 -- a cell that isn't a leaf has too many members, and a level left below it
 pub record IsSplit (made : Made) (cell : Cell) : Type 0 where
@@ -18,7 +13,7 @@ pub record IsSplit (made : Made) (cell : Cell) : Type 0 where
 -- a cell that fails the test of leaves is split
 pub IsSplit-from_test : (made : Made) (cell : Cell) → is_leaf made cell ≡ false → IsSplit made cell
 IsSplit-from_test made cell h =
-    let w = or_false (leb (length cell.members) made.leaf) (leb 10 cell.cube.level) h in
+    let w = or_parts (leb (length cell.members) made.leaf) (leb 10 cell.cube.level) h in
     record { many = leb-false _ _ w.0; level = leb-false _ _ w.1 }
 
 -- with no level below there is the cell alone
@@ -49,7 +44,7 @@ subtree_many made levels cell h e = rw (h, e) refl
 -- a split cell has the cells of its octants below it
 pub cells_under-split : (made : Made) (cell : Cell) → is_leaf made cell ≡ false → cells_under made cell ≡ cell ∷ flat_map (cells_in made cell) (numbers_from 0 8)
 cells_under-split made cell h =
-    let w = or_false (leb (length cell.members) made.leaf) (leb 10 cell.cube.level) h in
+    let w = or_parts (leb (length cell.members) made.leaf) (leb 10 cell.cube.level) h in
     let l = leb-false _ _ w.1 in
     let e : 10 - cell.cube.level ≡ suc (10 - (cell.cube.level + 1)) = omega arith in
     rw e (subtree_many made (10 - (cell.cube.level + 1)) cell w.0 refl)

@@ -8,27 +8,26 @@ use Rattle.cell_tree.specs.declared.tree.Span.{Span}
 use Rattle.cell_tree.specs.Due.{has_due}
 use Rattle.cell_tree.specs.Laws.{CanBeMade}
 use Rattle.cell_tree.specs.Tree.{Made, cell_at, cells_of, is_leaf}
-use Rattle.cell_tree.proofs.Members.{sound_at, root, Contains-numbers}
+use Rattle.cell_tree.proofs.Members.{root, Contains-numbers}
+use Rattle.cell_tree.proofs.Orders.{cells_some}
 use Rattle.cell_tree.proofs.Shape.{cells_under-first}
 use Rattle.pair_cover.specs.declared.spans.Limits.{Limits}
 use Rattle.pair_cover.specs.Covering.{group_of, AreMoved, AreInReach, CoversMoved}
 use Rattle.pair_cover.specs.Looks.{children_of, drops, stops, splits_first, pair_spans, self_spans, twos, most_looks, spans_of, reach_of_two, gap2_of}
 use Rattle.pair_cover.proofs.Distances.{not_in_reach, not_in_reach_turned}
 use Rattle.pair_cover.proofs.LookCases.{first_more, second_more, pairs_none, pairs_dropped, pairs_stopped, pairs_first, pairs_second, ends, selves_dropped, selves_stopped, selves_split}
+use Rattle.pair_cover.proofs.LookSteps.{level_most}
 use Rattle.pair_cover.proofs.Families.{IsParent-from_children, total-children}
 use Rattle.pair_cover.proofs.Shares.{share, share_cases, share_member, share_other, share_of_two, own_share, some_of_two, two_from_some, some_itself, itself_from_some}
 use Rattle.pair_cover.proofs.Totals.{total, total-append, total-flat_map, total-agree, total-zero, total-map, total-products, total-products_turned, total-twos, total-twos_agree, JustOne-from_total}
 
 -- one factor of each product is none
 products_none : (p q r s : ℕ) → (p ≡ 0) ⊎ (q ≡ 0) → (r ≡ 0) ⊎ (s ≡ 0) → p * q + r * s ≡ 0
-products_none p q r s h k = none p q h r s k
+products_none p q r s h k = let e = product p q h in let f = product r s k in omega arith
   where
     product : (p q : ℕ) → (p ≡ 0) ⊎ (q ≡ 0) → p * q ≡ 0
     product p q (inl e) = rw e (omega arith)
     product p q (inr e) = rw e (omega arith)
-
-    none : (p q : ℕ) → (p ≡ 0) ⊎ (q ≡ 0) → (r s : ℕ) → (r ≡ 0) ⊎ (s ≡ 0) → p * q + r * s ≡ 0
-    none p q h r s k = let e = product p q h in let f = product r s k in omega arith
 
 module _ (made : Made) (due : List Bool) (limits : Limits) where
   -- a cell with no due member has no due point
@@ -38,10 +37,6 @@ module _ (made : Made) (due : List Bool) (limits : Limits) where
       true≢false (sym (list_any_at (λ k. get_or due k false) (cell_at made cell).members c.0 i c.1 (ap (λ k. get_or due k false) c.2 ∙ d)) ∙ f))
 
   module _ (can : CanBeMade made) where
-    -- levels are at most ten
-    level_most : (cell : ℕ) → cell < length (cells_of made) → (cell_at made cell).cube.level ≤ 10
-    level_most cell l = (sound_at made can cell l).in_box.level
-
     module _ (i : ℕ) (is_due : get_or due i false ≡ true) where
       -- no two cells have a span in which a point meets itself
       pairs_own : (looks a b : ℕ) → total (λ s. own_share i (group_of made s)) (pair_spans made due limits looks a b) ≡ 0
@@ -61,7 +56,7 @@ module _ (made : Made) (due : List Bool) (limits : Limits) where
       -- a due member of a cell meets itself once in the cell's look
       selves_own : (looks cell : ℕ) → cell < length (cells_of made) → 11 ≤ looks + (cell_at made cell).cube.level
           → total (λ s. own_share i (group_of made s)) (self_spans made due limits looks cell) ≡ share (cell_at made cell).members i
-      selves_own zero cell l enough = absurd (let m = level_most cell l in omega arith)
+      selves_own zero cell l enough = absurd (let m = level_most made can cell l in omega arith)
       selves_own (suc looks) cell l enough =
           elim (cases_Bool (has_due made due cell)) [
             | inl d ↦ elim (cases_Bool (ends made limits cell)) [
@@ -157,7 +152,7 @@ module _ (made : Made) (due : List Bool) (limits : Limits) where
       -- the look at two cells, if it has looks enough
       pairs_total : (looks a b : ℕ) → a < length (cells_of made) → b < length (cells_of made) → 21 ≤ looks + (cell_at made a).cube.level + (cell_at made b).cube.level
           → total shares (pair_spans made due limits looks a b) ≡ two_of a b
-      pairs_total zero a b l m enough = absurd (let p = level_most a l in let q = level_most b m in omega arith)
+      pairs_total zero a b l m enough = absurd (let p = level_most made can a l in let q = level_most made can b m in omega arith)
       pairs_total (suc looks) a b l m enough =
           elim (cases_Bool (drops made due limits a b)) [
             | inl d ↦ rw (pairs_dropped made due limits looks a b d) (sym (none_dropped a b l m d))
@@ -189,7 +184,7 @@ module _ (made : Made) (due : List Bool) (limits : Limits) where
 
       -- the look at one cell
       selves_total : (looks cell : ℕ) → cell < length (cells_of made) → 11 ≤ looks + (cell_at made cell).cube.level → total shares (self_spans made due limits looks cell) ≡ one_of cell
-      selves_total zero cell l enough = absurd (let m = level_most cell l in omega arith)
+      selves_total zero cell l enough = absurd (let m = level_most made can cell l in omega arith)
       selves_total (suc looks) cell l enough =
           elim (cases_Bool (has_due made due cell)) [
             | inl d ↦ elim (cases_Bool (ends made limits cell)) [
@@ -243,4 +238,4 @@ spans_cover made due limits can long low places moved = record {
 }
   where
     some : 0 < length (cells_of made)
-    some = (cells_under-first made (root made)).some
+    some = cells_some made

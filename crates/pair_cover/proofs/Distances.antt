@@ -1,5 +1,5 @@
 -- Points of two cells that a look drops are out of reach.
-use Rattle.std.proofs.Common.{◌≡◌, ℕ, ◌+◌, ◌-◌, ◌*◌, ◌^◌, ◌<◌, ◌≤◌, max, List, [], map, flat_map, length, get_or, slice_index, slice_index_or, ap, subst, arith}
+use Rattle.std.proofs.Common.{◌≡◌, ℕ, ◌+◌, ◌*◌, ◌<◌, ◌≤◌, max, List, [], map, flat_map, length, get_or, slice_index, slice_index_or, refl, ap, subst, arith}
 use Rattle.std.specs.List.{Contains}
 use Rattle.std.proofs.lemmas.List.Elements.{All-contains}
 use Rattle.std.proofs.lemmas.Nat.{mul-le}
@@ -9,9 +9,10 @@ use Rattle.sph_num.specs.Space.{IsPlace, axis2, dist2}
 use Rattle.sph_num.proofs.Extremes.{All-fold_min, All-fold_max}
 use Rattle.sph_num.proofs.Members.{Contains-map, Contains-flat_map}
 use Rattle.cell_geom.specs.declared.cube.Cube.{Cube}
-use Rattle.cell_geom.specs.Cube.{IsCube, cube_holds}
-use Rattle.cell_geom.specs.Gap.{IsOnAxis, apart, slackened, IsMoved, KeepsGap}
-use Rattle.cell_geom.proofs.Ring.{apart-comm, apart_moved}
+use Rattle.cell_geom.specs.Cube.{IsCube}
+use Rattle.cell_geom.specs.Gap.{IsOnAxis, apart, KeepsGap}
+use Rattle.cell_geom.proofs.Gaps.{coordinate-lt, KeepsGap-from_axes}
+use Rattle.cell_geom.proofs.Ring.{apart-comm}
 use Rattle.cell_tree.specs.Tree.{Made, cells_of, cell_at, reach_of}
 use Rattle.cell_tree.specs.Laws.{CanBeMade}
 use Rattle.cell_tree.proofs.Members.{sound_at}
@@ -28,40 +29,15 @@ axis_gap_of-le a b axis x y is_a is_b low on_a on_b =
     All-contains (λ d. least_of distances ≤ d) distances (apart x y) (All-fold_min (slice_index distances 0) distances)
     (Contains-flat_map from (coordinates a axis) x (apart x y) (from_axis a axis is_a low x on_a) (Contains-map (λ y. apart x y) (coordinates b axis) y (from_axis b axis is_b low y on_b)))
 
--- a place's coordinates
-coordinate_lt : (place : List ℕ) (axis : ℕ) → IsPlace place → axis < 3 → get_or place axis 0 < 2 ^ 20
-coordinate_lt place axis is low = is.1 axis 0 (omega (arith, is.0))
-
--- on one axis, points that two cubes hold keep the gap as they move
-axis_keeps : (a b : Cube) (slack axis : ℕ) (p q p' q' : List ℕ) → IsCube a → IsCube b → axis < 3 → cube_holds a p → cube_holds b q → IsMoved slack p p' → IsMoved slack q q'
-    → slackened (axis_gap_of a b axis) slack ≤ axis2 p' q' axis
-axis_keeps a b slack axis p q p' q' is_a is_b low held_p held_q moved_p moved_q =
-    let x = get_or p axis 0 in
-    let y = get_or q axis 0 in
-    let x' = get_or p' axis 0 in
-    let y' = get_or q' axis 0 in
-    let low_x = coordinate_lt p axis moved_p.was low in
-    let low_y = coordinate_lt q axis moved_q.was low in
-    let before = axis_gap_of-le a b axis x y is_a is_b low (record { in_box = low_x; held = held_p axis low }) (record { in_box = low_y; held = held_q axis low }) in
-    let after = apart_moved x y x' y' low_x low_y (coordinate_lt p' axis moved_p.now low) (coordinate_lt q' axis moved_q.now low) in
-    let near : axis_gap_of a b axis - 2 * slack ≤ apart x' y' = omega (arith, moved_p.near axis low, moved_q.near axis low) in
-    mul-le (axis_gap_of a b axis - 2 * slack) (axis_gap_of a b axis - 2 * slack) (apart x' y') (apart x' y') near near
-
--- three sums
-sums-le : (a b c l m n : ℕ) → a ≤ l → b ≤ m → c ≤ n → a + b + c ≤ l + m + n
-sums-le a b c l m n p q r = omega arith
-
 -- moved points keep the gap
 pub KeepsGap-gap2_of : (a b : Cube) (slack : ℕ) → IsCube a → IsCube b → KeepsGap a b slack (gap2_of a b slack)
-KeepsGap-gap2_of a b slack is_a is_b p q p' q' held_p held_q moved_p moved_q =
-    sums-le (slackened (axis_gap_of a b 0) slack) (slackened (axis_gap_of a b 1) slack) (slackened (axis_gap_of a b 2) slack) (axis2 p' q' 0) (axis2 p' q' 1) (axis2 p' q' 2)
-    (axis_keeps a b slack 0 p q p' q' is_a is_b (omega arith) held_p held_q moved_p moved_q)
-    (axis_keeps a b slack 1 p q p' q' is_a is_b (omega arith) held_p held_q moved_p moved_q)
-    (axis_keeps a b slack 2 p q p' q' is_a is_b (omega arith) held_p held_q moved_p moved_q)
+KeepsGap-gap2_of a b slack is_a is_b =
+    let least = λ (axis : ℕ) (low : axis < 3) (x y : ℕ). axis_gap_of-le a b axis x y is_a is_b low in
+    KeepsGap-from_axes a b slack (axis_gap_of a b 0) (axis_gap_of a b 1) (axis_gap_of a b 2) (gap2_of a b slack) refl (least 0 (omega arith)) (least 1 (omega arith)) (least 2 (omega arith))
 
 -- the distance is the same from both
 axis2-comm : (p q : List ℕ) (axis : ℕ) → IsPlace p → IsPlace q → axis < 3 → axis2 p q axis ≡ axis2 q p axis
-axis2-comm p q axis is_p is_q low = ap (λ d. d * d) (apart-comm (get_or p axis 0) (get_or q axis 0) (coordinate_lt p axis is_p low) (coordinate_lt q axis is_q low))
+axis2-comm p q axis is_p is_q low = ap (λ d. d * d) (apart-comm (get_or p axis 0) (get_or q axis 0) (coordinate-lt p axis is_p low) (coordinate-lt q axis is_q low))
 
 sums_same : (a b c l m n : ℕ) → a ≡ l → b ≡ m → c ≡ n → a + b + c ≡ l + m + n
 sums_same a b c l m n p q r = omega arith

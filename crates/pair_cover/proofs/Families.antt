@@ -4,6 +4,7 @@ use Rattle.std.specs.List.{Contains}
 use Rattle.std.proofs.lemmas.Bool.{cases_lt, cases_eq, cases_order, and_parts, and_from, eqb-true, eq-eqb, true≢false}
 use Rattle.cell_geom.specs.declared.cube.Cube.{Cube}
 use Rattle.cell_geom.specs.Cube.{CubeContains}
+use Rattle.cell_geom.proofs.Nesting.{each_axis}
 use Rattle.cell_tree.specs.Tree.{Made, cells_of, cell_at, is_leaf, IsParent, numbers_from}
 use Rattle.cell_tree.specs.Laws.{CanBeMade}
 use Rattle.cell_tree.proofs.Family.{run_inside, run_outside, level_deeper, parent_run}
@@ -15,13 +16,6 @@ use Rattle.cell_tree.proofs.SharedMembers.{is_held, outer_member, holds_sharing}
 use Rattle.pair_cover.specs.Looks.{is_octant_of, children_of}
 use Rattle.pair_cover.proofs.Shares.{share, share_cases, share_other, share_member}
 use Rattle.pair_cover.proofs.Totals.{total, total-none, total-only}
-
--- what holds on each of three axes
-each_axis : (P : ℕ → Type 0) → P 0 → P 1 → P 2 → (axis : ℕ) → axis < 3 → P axis
-each_axis P x y z zero h = x
-each_axis P x y z (suc zero) h = y
-each_axis P x y z (suc (suc zero)) h = z
-each_axis P x y z (suc (suc (suc n))) h = absurd (omega arith)
 
 -- a half of a place, as a shift by one level
 shift_from_half : (x at l m : ℕ) → l ≡ suc m → x / 2 ≡ at → x / 2 ^ (l - m) ≡ at

@@ -9,13 +9,14 @@ use Rattle.cell_tree.specs.Laws.{CanBeMade}
 use Rattle.cell_tree.specs.Spans.{count_of}
 use Rattle.cell_tree.specs.Tree.{Made, Cell, cells_of}
 use Rattle.cell_tree.proofs.Members.{root, sound_at, length-numbers_from}
+use Rattle.cell_tree.proofs.Orders.{cells_some}
 use Rattle.cell_tree.proofs.Shape.{cells_under-first}
 use Rattle.pair_cover.specs.declared.spans.Limits.{Limits}
 use Rattle.pair_cover.specs.Looks.{pair_spans, self_spans, spans_of, children_of, twos, most_looks}
 use Rattle.pair_cover.proofs.ChildLists.{children_count}
 use Rattle.pair_cover.proofs.Families.{IsParent-from_children}
 use Rattle.pair_cover.proofs.LookCases.{pairs_none, selves_none}
-use Rattle.pair_cover.proofs.LookSteps.{first_cell, pair_cases, self_cases}
+use Rattle.pair_cover.proofs.LookSteps.{pair_cases, self_cases}
 use Rattle.sph_num.proofs.Members.{Contains-head, Contains-later}
 use Rattle.cell_tree.proofs.Rising.{sum_by-le_each, sum_by-mul}
 
@@ -97,5 +98,5 @@ module _ (made : Made) (can : CanBeMade made) where
     pub spans_few : 2 * length (spans_of made due limits) ≤ length made.points * (length made.points + 1)
     spans_few =
         let whole : count_of made 0 ≡ length made.points = ap (λ (c : Cell). length c.members) (cells_under-first made (root made)).first ∙ length-numbers_from 0 (length made.points) in
-        let few = self_few most_looks 0 (first_cell made) in
+        let few = self_few most_looks 0 (cells_some made) in
         rw whole at few

@@ -4,12 +4,12 @@ use Rattle.std.specs.List.{flat_map}
 use Rattle.std.proofs.lemmas.Bool.{cases_Bool}
 use Rattle.std.proofs.lemmas.List.{append-nil, take_more, take_all, drop_more, drop_all, flat_map_more}
 use Rattle.std.proofs.lemmas.List.Concat.{flat_map-append}
+use Rattle.std.proofs.lemmas.List.Folds.{flat_map-map}
 use Rattle.cell_tree.specs.declared.tree.Span.{Span}
 use Rattle.cell_tree.specs.Due.{has_due, AreDueBefore}
 use Rattle.cell_tree.specs.Laws.{CanBeMade}
 use Rattle.cell_tree.specs.Tree.{Made, cells_of, cell_at}
-use Rattle.cell_tree.proofs.Members.{root, sound_at}
-use Rattle.cell_tree.proofs.Shape.{cells_under-first}
+use Rattle.cell_tree.proofs.Members.{sound_at}
 use Rattle.pair_cover.specs.declared.spans.Limits.{Limits}
 use Rattle.pair_cover.specs.Looks.{reach_of_two, gap2_of, drops, stops, splits_first, span_of, children_of, pair_spans, self_spans, twos, most_looks}
 use Rattle.pair_cover.specs.Steps.{Adds, level_at}
@@ -52,10 +52,6 @@ module _ (made : Made) (due : List Bool) (limits : Limits) where
           | inr s ↦ subst P (sym (selves_split made due limits looks cell d s)) below
         ]
       ]
-
--- the whole box is a cell
-pub first_cell : (made : Made) → 0 < length (cells_of made)
-first_cell made = (cells_under-first made (root made)).some
 
 -- levels go to ten
 pub level_most : (made : Made) → CanBeMade made → (cell : ℕ) → cell < length (cells_of made) → level_at made cell ≤ 10
@@ -113,11 +109,6 @@ module _ (made : Made) (before : List ℕ) where
       added = λ due looks d m. a.added due looks d m ∙ ap (λ zs. old ++ flat_map (f due looks) zs) (take_all i xs l ∙ e);
     }
 
--- parts of what a map gives
-flat_map-map : {X Y Z : Type 0} (f : X → Y) (g : Y → List Z) (xs : List X) → flat_map g (map f xs) ≡ flat_map (λ x. g (f x)) xs
-flat_map-map f g [] = refl
-flat_map-map f g (x ∷ xs) = ap (λ zs. g (f x) ++ zs) (flat_map-map f g xs)
-
 module _ (made : Made) (before : List ℕ) (g : List Bool → ℕ × ℕ → List Span) (xs : List ℕ) (old : List Span) where
   -- with the looks at each two of the cells from this one on, all looks at two of them are added
   pub record AddsTwos (i : ℕ) (new : List Span) : Type 0 where
@@ -134,7 +125,7 @@ module _ (made : Made) (before : List ℕ) (g : List Bool → ℕ × ℕ → Lis
         let split : drop i xs ≡ x ∷ rest = drop_more xs i 0 m ∙ ap (λ k. k ∷ rest) (sym e) in
         let parts : flat_map (g due) (twos (drop i xs)) ≡ flat_map (λ y. g due (x, y)) rest ++ flat_map (g due) (twos rest) =
         ap (λ ys. flat_map (g due) (twos ys)) split ∙ flat_map-append (g due) (map (λ y. (x, y)) rest) (twos rest)
-        ∙ ap (λ zs. zs ++ flat_map (g due) (twos rest)) (flat_map-map (λ y. (x, y)) (g due) rest) in
+        ∙ ap (λ zs. zs ++ flat_map (g due) (twos rest)) (flat_map-map (g due) (λ y. (x, y)) rest) in
         ap (λ zs. zs ++ flat_map (g due) (twos rest)) (b.added due 0 d (omega arith)) ∙ append_assoc mid (flat_map (λ y. g due (x, y)) rest) (flat_map (g due) (twos rest))
         ∙ ap (λ zs. mid ++ zs) (sym parts) ∙ a.joined due d;
   }

@@ -9,13 +9,14 @@ use Rattle.cell_tree.specs.Spans.{IsSpan}
 use Rattle.cell_tree.specs.Tree.{Made, cells_of, cell_at}
 use Rattle.cell_tree.proofs.Cubes.{CubeContains-trans, CubeContains-turned}
 use Rattle.cell_tree.proofs.Family.{run_inside, run_outside}
+use Rattle.cell_tree.proofs.Orders.{cells_some}
 use Rattle.cell_tree.proofs.Shape.{Holds}
 use Rattle.pair_cover.specs.declared.spans.Limits.{Limits}
 use Rattle.pair_cover.specs.Looks.{span_of, pair_spans, self_spans, spans_of, children_of, twos, most_looks}
 use Rattle.pair_cover.proofs.ChildLists.{children_rise}
 use Rattle.pair_cover.proofs.Families.{IsParent-from_children}
 use Rattle.pair_cover.proofs.LookCases.{pairs_none, selves_none}
-use Rattle.pair_cover.proofs.LookSteps.{first_cell, pair_cases, self_cases}
+use Rattle.pair_cover.proofs.LookSteps.{pair_cases, self_cases}
 use Rattle.cell_tree.proofs.Rising.{Rises, Rises-tail, head_below}
 
 -- what holds of each two of a rising list holds of all its twos
@@ -106,4 +107,4 @@ module _ (made : Made) (can : CanBeMade made) where
 
     -- the spans of a tree
     pub spans_cells : All (IsSpan made) (spans_of made due limits)
-    spans_cells = self_cells most_looks 0 (first_cell made)
+    spans_cells = self_cells most_looks 0 (cells_some made)

@@ -3,6 +3,7 @@ use Rattle.std.proofs.Common.{◌≡◌, ℕ, zero, suc, ◌+◌, ◌*◌, ◌<�
 use Rattle.std.specs.List.{Contains}
 use Rattle.std.proofs.lemmas.Bool.{cases_Bool, cases_eq}
 use Rattle.sph_num.specs.Cover.{Group, JustOne}
+use Rattle.sph_num.proofs.Members.{Contains-head, Contains-later}
 use Rattle.cell_tree.specs.Tree.{numbers_from}
 use Rattle.pair_cover.specs.Looks.{twos}
 
@@ -10,10 +11,6 @@ use Rattle.pair_cover.specs.Looks.{twos}
 abbrev pub total : {X : Type 0} → (X → ℕ) → List X → ℕ
 total f [] = 0
 total f (x ∷ xs) = f x + total f xs
-
--- what the rest has, the list has
-later : {X : Type 0} (y : X) (xs : List X) (x : X) → Contains xs x → Contains (y ∷ xs) x
-later y xs x c = (suc c.0, (let l = c.1 in omega arith), c.2)
 
 -- the total of two lists joined, of parts joined, and of what a list was mapped to
 pub total-append : {X : Type 0} (f : X → ℕ) (xs ys : List X) → total f (xs ++ ys) ≡ total f xs + total f ys
@@ -32,16 +29,16 @@ total-map f g (x ∷ xs) = ap (λ n. f (g x) + n) (total-map f g xs)
 pub total-agree : {X : Type 0} (f g : X → ℕ) (xs : List X) → ((x : X) → Contains xs x → f x ≡ g x) → total f xs ≡ total g xs
 total-agree f g [] h = refl
 total-agree f g (x ∷ xs) h =
-    let here = h x (0, omega arith, refl) in
-    let there = total-agree f g xs (λ y c. h y (later x xs y c)) in
+    let here = h x (Contains-head x xs) in
+    let there = total-agree f g xs (λ y c. h y (Contains-later x xs y c)) in
     omega arith
 
 -- so has what is nothing at each
 pub total-zero : {X : Type 0} (f : X → ℕ) (xs : List X) → ((x : X) → Contains xs x → f x ≡ 0) → total f xs ≡ 0
 total-zero f [] h = refl
 total-zero f (x ∷ xs) h =
-    let here = h x (0, omega arith, refl) in
-    let there = total-zero f xs (λ y c. h y (later x xs y c)) in
+    let here = h x (Contains-head x xs) in
+    let there = total-zero f xs (λ y c. h y (Contains-later x xs y c)) in
     omega arith
 
 -- the total of sums of two products, the second factors fixed, and the first
@@ -71,8 +68,8 @@ pub total-twos_agree : (f g : ℕ × ℕ → ℕ) (xs : List ℕ) → ((x y : �
 total-twos_agree f g [] h = refl
 total-twos_agree f g (x ∷ xs) h =
     let here : total f (map (λ y. (x, y)) xs) ≡ total g (map (λ y. (x, y)) xs) =
-    total-map f (λ y. (x, y)) xs ∙ total-agree (λ y. f (x, y)) (λ y. g (x, y)) xs (λ y c. h x y (0, omega arith, refl) (later x xs y c)) ∙ sym (total-map g (λ y. (x, y)) xs) in
-    let there = total-twos_agree f g xs (λ y z c d. h y z (later x xs y c) (later x xs z d)) in
+    total-map f (λ y. (x, y)) xs ∙ total-agree (λ y. f (x, y)) (λ y. g (x, y)) xs (λ y c. h x y (Contains-head x xs) (Contains-later x xs y c)) ∙ sym (total-map g (λ y. (x, y)) xs) in
+    let there = total-twos_agree f g xs (λ y z c d. h y z (Contains-later x xs y c) (Contains-later x xs z d)) in
     total-append f (map (λ y. (x, y)) xs) (twos xs) ∙ ap (λ n. n + total f (twos xs)) here ∙ ap (λ n. total g (map (λ y. (x, y)) xs) + n) there
     ∙ sym (total-append g (map (λ y. (x, y)) xs) (twos xs))
 

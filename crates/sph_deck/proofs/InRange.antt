@@ -5,6 +5,7 @@ use Rattle.std.proofs.lemmas.List.{length-map}
 use Rattle.std.proofs.lemmas.List.Elements.{All-cons, All-head, All-tail, All-map, All-nil, All-weaker}
 use Rattle.std.specs.List.{cons_option}
 use Rattle.sph_num.specs.Ranges.{AreParamsInRange, IsBody, IsDeckMomentum}
+use Rattle.sph_num.proofs.Members.{All-three}
 use Rattle.toml.specs.Data.{Data, Members, as_table}
 use Rattle.sph_deck.specs.declared.key.Key.{Key}
 use Rattle.sph_deck.specs.declared.key.Key.TheVariants.{Ticks, Every, BinMin, BinMax, Sound, Shift, Accuracy, Leaf, Pairs, Slack, Mass, H, X, Y, Z, Px, Py, Pz}
@@ -75,10 +76,6 @@ params_within top numbers =
 below_box : (n : ℕ) → n ≤ 1048575 → n < 2 ^ 20
 below_box n h = omega arith
 
--- what holds of each of three
-three_all : {A : Type 0} (P : A → Type 0) (a b c : A) → P a → P b → P c → All P (a ∷ b ∷ c ∷ [])
-three_all P a b c pa pb pc = All-cons P a (b ∷ c ∷ []) pa (All-cons P b (c ∷ []) pb (All-cons P c [] pc (All-nil P)))
-
 -- a particle's mass, length and place are in their ranges
 body_within : (table : Members) → AreNumbersRead false table → IsBody (particle_of table)
 body_within table numbers =
@@ -90,13 +87,13 @@ body_within table numbers =
     record {
       mass = record { low = mass.0; high = mass.1 };
       h = record { low = h.0; high = h.1 };
-      place = (refl, three_all (λ n. n < 2 ^ 20) _ _ _ (below_box _ x.1) (below_box _ y.1) (below_box _ z.1));
+      place = (refl, All-three (λ n. n < 2 ^ 20) _ _ _ (below_box _ x.1) (below_box _ y.1) (below_box _ z.1));
     }
 
 -- so is its momentum
 momenta_within : (table : Members) → AreNumbersRead false table → IsDeckMomentum (particle_of table)
 momenta_within table numbers =
-    three_all (λ p. unsigned_abs p < 2 ^ 63) _ _ _
+    All-three (λ p. unsigned_abs p < 2 ^ 63) _ _ _
     (momentum_within Px table refl (numbers Px refl refl))
     (momentum_within Py table refl (numbers Py refl refl))
     (momentum_within Pz table refl (numbers Pz refl refl))

@@ -8,3 +8,4 @@ pub mod Members
 pub mod Extremes
 pub mod Forces
 pub mod Drifts
+pub mod PastEnd

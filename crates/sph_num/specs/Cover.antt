@@ -14,7 +14,7 @@ MeetIn first (Some second) i j = (Contains first i × Contains second j) ⊎ (Co
 abbrev pub Meets : ℕ → ℕ → Group → Type 0
 Meets i j group = MeetIn group.first group.second i j
 
--- a particle meets itself in the one cell
+-- a particle meets itself in the one cell, for its own part of its density; a force has no such part
 pub record MeetsItself (i : ℕ) (group : Group) : Type 0 where
   pub one_cell : group.second ≡ None
   pub member : Contains group.first i

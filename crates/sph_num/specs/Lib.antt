@@ -3,6 +3,7 @@ pub mod Cover
 pub mod Density
 pub mod Force
 pub mod Kernel
+pub mod Kinds
 pub mod Motion
 pub mod Ranges
 pub mod Space

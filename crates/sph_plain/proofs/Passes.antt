@@ -7,6 +7,7 @@ use Rattle.sph_num.specs.declared.particle.Params.{Params}
 use Rattle.sph_num.specs.declared.particle.Particle.{Particle}
 use Rattle.sph_num.specs.Force.{ghost_value}
 use Rattle.sph_num.specs.Motion.{position_of}
+use Rattle.sph_num.proofs.PastEnd.{no_particle}
 use Rattle.sph_bins.specs.Bins.{is_due}
 use Rattle.sph_bins.specs.Kick.{place_at, density_at, ghost_at, force_at, kicked_with, kicked, next_list}
 use Rattle.sph_plain.specs.declared.body.Body.{Body}
@@ -15,9 +16,6 @@ use Rattle.sph_plain.proofs.Mapped.{written, read_next, written_more, written_ke
 use Rattle.sph_plain.proofs.Totals.{density_of_bodies, force_of_bodies}
 
 -- what a read past the end of a list would give
-abbrev pub no_particle : Particle
-no_particle = record { mass = 0; h = 0; x0 = []; t0 = 0; p = []; q = []; f = []; rho = 0; g = 0; bin = 0 }
-
 abbrev pub no_body : Body
 no_body = record { place = []; h = 0; g = 0; mass = 0 }
 

@@ -279,8 +279,13 @@ fn kicks_the_light_one_at_each_tick(rt: HostRuntime) -> Result<(), Fail> {
 fn forty_at_one_point_push_none(rt: HostRuntime) -> Result<(), Fail> {
     let deck = deck(rt.alloc(), 0, ONE_BIN, &[(1, 131_072, 0, 0); 40])?;
     assert!(rt; deck.params.bin_min == 0);
-    let rows = steps(rt.alloc(), &deck)?;
-    assert_eq!(rt; rows.len(), 40);
-    assert!(rt; rows.iter().all(|row| row.rho == 800 && row.f == 0));
+    let mut particles = start(rt.alloc(), &deck)?;
+    step(rt.alloc(), &deck, &mut particles, 0)?;
+    assert_eq!(rt; particles.len(), 40);
+    assert!(rt;
+        particles
+            .iter()
+            .all(|particle| particle.rho == 800 && particle.f == [0; 3])
+    );
     Ok(())
 }

@@ -5,15 +5,13 @@ use Rattle.sph_num.specs.declared.particle.Params.{Params}
 use Rattle.sph_num.specs.declared.particle.Particle.{Particle}
 use Rattle.sph_num.specs.Space.{IsPlace}
 use Rattle.sph_num.specs.Ranges.{IsLength}
+use Rattle.sph_num.proofs.PastEnd.{no_particle}
 use Rattle.sph_deck.specs.Accepted.{AreAccepted}
 use Rattle.sph_deck.specs.declared.deck.Deck.{Deck}
 use Rattle.cell_tree.specs.Laws.{CanBeMade}
 use Rattle.cell_tree.specs.Tree.{Made, made_of}
 use Rattle.task_graph.specs.Graph.{Plan}
 use Rattle.sph_report.specs.TreeLines.{tree_of, graph_of_deck, line_of_tree, line_of_graph, tree_lines}
-
-abbrev no_particle : Particle
-no_particle = record { mass = 0; h = 0; x0 = []; t0 = 0; p = []; q = []; f = []; rho = 0; g = 0; bin = 0 }
 
 -- an accepted deck's particles can be made a tree
 CanBeMade-deck : (params : Params) (particles : List Particle) → AreAccepted params particles

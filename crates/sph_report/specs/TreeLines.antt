@@ -3,7 +3,8 @@
 use Rattle.std.specs.Prelude.{ℕ, Bool, true, false, List, [], ◌∷◌, ◌++◌, codes, decimal, map, filter, length, replicate, sum_by, count_by}
 use Rattle.sph_num.specs.Bound.{greatest_of}
 use Rattle.sph_num.specs.declared.kind.Kind.{Kind}
-use Rattle.sph_num.specs.declared.kind.Kind.TheVariants.{Drift, Density, Ghost, Force, Kick}
+use Rattle.sph_num.specs.declared.kind.Kind.TheVariants.{Density, Ghost, Force, Kick}
+use Rattle.sph_num.specs.Kinds.{same_kind}
 use Rattle.sph_deck.specs.declared.deck.Deck.{Deck}
 use Rattle.cell_tree.specs.Tree.{Made, cells_of, is_leaf, leaf_count, made_of}
 use Rattle.pair_cover.specs.Looks.{spans_of}
@@ -28,15 +29,6 @@ deepest_level made = greatest_of (map (λ cell. cell.cube.level) (cells_of made)
 
 abbrev pub largest_leaf : Made → ℕ
 largest_leaf made = greatest_of (map (λ cell. length cell.members) (filter (is_leaf made) (cells_of made)))
-
--- whether two kinds are one
-abbrev pub same_kind : Kind → Kind → Bool
-same_kind Drift Drift = true
-same_kind Density Density = true
-same_kind Ghost Ghost = true
-same_kind Force Force = true
-same_kind Kick Kick = true
-same_kind _ _ = false
 
 -- the number of tasks of a kind, the number of edges, and the greatest weight
 abbrev pub tasks_of_kind : Kind → Plan → ℕ

@@ -2,8 +2,9 @@
 use Rattle.std.proofs.Common.{◌≡◌, ◌≢◌, ℕ, suc, ◌+◌, ◌-◌, ◌<◌, ◌≤◌, Some, None, List, [], ◌∷◌, ◌++◌, length, get_or, take, drop, refl, sym, ap, ◌∙◌, subst, inl, inr, ◌⊎◌, arith, map}
 use Rattle.std.specs.List.{All, flat_map}
 use Rattle.std.specs.List.Sorted.{IsStrictlyIncreasing}
-use Rattle.std.proofs.lemmas.List.{append-nil, append_assoc, append_cancel_left, drop_at, take_at, length-drop, length-take}
+use Rattle.std.proofs.lemmas.List.{append-nil, append_assoc, append_cancel_left, take_at, length-drop, length-take}
 use Rattle.std.proofs.lemmas.List.Elements.{All-head, All-tail}
+use Rattle.std.proofs.lemmas.List.Prefix.{front_rest}
 use Rattle.sph_snap.specs.declared.fault.SnapFault.{SnapFault}
 use Rattle.sph_snap.specs.declared.fault.SnapFault.TheVariants.{Magic, Short, Range, Trailing, Memory}
 use Rattle.sph_snap.specs.declared.snapshot.Snapshot.{Snapshot}
@@ -55,10 +56,6 @@ end_is_no_snapshot : (s : Snapshot) (a b : List ℕ) → end_mark ++ a ≡ spell
 end_is_no_snapshot s a b e =
     let stands : IsAt (spell s) (end_mark ++ a) 0 = record { after = b; is = e } in
     marks_differ (sym (mark_at s (end_mark ++ a) 0 stands) ∙ take_at end_mark a 8 refl)
-
--- what stands behind the bytes before
-behind : (bytes front rest : List ℕ) → bytes ≡ front ++ rest → drop (length front) bytes ≡ rest
-behind bytes front rest e = ap (drop (length front)) e ∙ drop_at front rest (length front) refl
 
 -- a mark lies within the bytes
 mark-le : (mark bytes : List ℕ) (at : ℕ) → length mark ≡ 8 → IsMarkAt mark bytes at → at + 8 ≤ length bytes
@@ -151,7 +148,7 @@ goes_on : (bytes : List ℕ) (fault : SnapFault) (is : IsStreamFault bytes fault
     → AreInOrder all → all ≡ is.before ++ s ∷ more → is.rest ≡ flat_map spell (s ∷ more) ++ b → ⊥
 goes_on bytes fault is s more all b order e rest =
     let at = length (flat_map spell is.before) in
-    let stands : IsAt (spell s) bytes at = record { after = flat_map spell more ++ b; is = behind bytes (flat_map spell is.before) is.rest is.spelled ∙ rest ∙ append_assoc (spell s) (flat_map spell more) b } in
+    let stands : IsAt (spell s) bytes at = record { after = flat_map spell more ++ b; is = front_rest bytes (flat_map spell is.before) is.rest is.spelled ∙ rest ∙ append_assoc (spell s) (flat_map spell more) b } in
     snapshot_stands bytes is.before at s fault (Follows-from_order is.before s more all e order) stands (at_end bytes fault is)
 
 pub none_begins_another : NoneBeginsAnother
@@ -174,7 +171,7 @@ streams_have_no_fault bytes snapshots fault p q = cases (compared snapshots q.be
     cases (Same e f) =
         let some : q.before ≢ [] = λ none. let size : length snapshots ≡ 0 = ap length (e ∙ none) in let low = p.some in omega arith in
         end_stands bytes q.before (length (flat_map spell q.before)) fault some
-        (behind bytes (flat_map spell q.before) q.rest q.spelled ∙ sym f) (at_end bytes fault q)
+        (front_rest bytes (flat_map spell q.before) q.rest q.spelled ∙ sym f) (at_end bytes fault q)
     cases (FirstEnds y more e f) = end_is_no_snapshot y [] (flat_map spell more ++ q.rest) (f ∙ append_assoc (spell y) (flat_map spell more) q.rest)
     cases (SecondEnds x more e f) = goes_on bytes fault q x more snapshots end_mark p.in_order e f
 

@@ -27,7 +27,7 @@ number_behind bytes rest at n is =
     ap (little_from 0 n) is ∙ sym (little_from-drop 0 n at bytes) ∙ ap (λ k. little_from k n bytes) here
 
 -- the test of a number between two ends
-between-within : (least greatest x : ℕ) → least ≤ x → x ≤ greatest → between least greatest x ≡ true
+pub between-within : (least greatest x : ℕ) → least ≤ x → x ≤ greatest → between least greatest x ≡ true
 between-within least greatest x low high = grind (arith, nat_tests)
 
 between-beyond : (least greatest x : ℕ) → (x < least) ⊎ ((least ≤ x) × (greatest < x)) → between least greatest x ≡ false

@@ -13,6 +13,7 @@ use Rattle.sph_snap.specs.declared.snapshot.Snapshot.{Snapshot}
 use Rattle.sph_snap.specs.Fields.{Field, field, between, is_component, field_fault, row_fields, rows_fields, snapshot_fields, first_fault}
 use Rattle.sph_snap.specs.Snapshot.{IsRow, IsSnapshot, row_bytes, signed_bytes, snapshot_mark, spell}
 use Rattle.sph_snap.specs.Reads.{IsMarkAt}
+use Rattle.sph_snap.proofs.FieldsRead.{between-within}
 use Rattle.sph_snap.proofs.Pieces.{IsAt, IsAt-first, IsAt-second, IsAt-fits}
 use Rattle.sph_snap.proofs.Numerals.{little_from-drop, twos_complement-bits, bits-lt}
 
@@ -78,15 +79,12 @@ IsSound-three P code n fits each (x ∷ y ∷ z ∷ w ∷ xs) at second third le
 component_fits : (z : ℤ) → unsigned_abs z < 2 ^ 96 → is_component (cast_unsigned w128 z) ≡ true
 component_fits z h = ap (λ y. ltb (unsigned_abs y) (2 ^ 96)) (twos_complement-bits z h) ∙ lt-ltb (unsigned_abs z) (2 ^ 96) h
 
-between-true : (least greatest n : ℕ) → least ≤ n → n ≤ greatest → between least greatest n ≡ true
-between-true least greatest n p q = grind (arith, nat_tests)
-
 pub IsSound-component : (z : ℤ) (at : ℕ) → unsigned_abs z < 2 ^ 96 → IsSound (signed_bytes z) at 16 (field at 16 is_component ∷ [])
 IsSound-component z at h = IsSound-number 16 (cast_unsigned w128 z) at is_component (omega arith) (bits-lt z h) (component_fits z h)
 
 -- a number between two ends
 pub IsSound-between : (n x at least greatest : ℕ) → 0 < n → greatest < 256 ^ n → least ≤ x → x ≤ greatest → IsSound (little_bytes n x) at n (field at n (between least greatest) ∷ [])
-IsSound-between n x at least greatest some small p q = IsSound-number n x at (between least greatest) some (omega arith) (between-true least greatest x p q)
+IsSound-between n x at least greatest some small p q = IsSound-number n x at (between least greatest) some (omega arith) (between-within least greatest x p q)
 
 -- the fields of a row
 pub IsSound-row : (number at : ℕ) (row : SnapRow) → IsRow number row → number < 256 ^ 4 → IsSound (row_bytes row) at 84 (row_fields number at)

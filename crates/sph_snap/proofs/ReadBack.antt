@@ -8,9 +8,10 @@ use Rattle.std.proofs.lemmas.Bool.{cases_lt, eqb-true, ltb-true}
 use Rattle.std.proofs.lemmas.Bool.Decides.{nat_tests}
 use Rattle.std.proofs.lemmas.Int.{ints}
 use Rattle.std.proofs.lemmas.List.{length-drop, get_or_past, take-append-drop}
-use Rattle.std.proofs.lemmas.List.Elements.{All-drop, All-tail, All-cons, All-nil}
+use Rattle.std.proofs.lemmas.List.Elements.{All-drop, All-tail}
 use Rattle.byteorder.specs.Endian.{little_from, little_bytes, twos_complement}
 use Rattle.byteorder.specs.Numbers.{little_from-cons, little_from-lt}
+use Rattle.sph_num.proofs.Members.{All-three}
 use Rattle.sph_snap.specs.Fields.{Field, field, between, is_component, field_fault, row_fields, rows_fields, snapshot_fields, first_fault}
 use Rattle.sph_snap.specs.Parts.{number_in, row_in, rows_in, signed_in, snapshot_in}
 use Rattle.sph_snap.specs.Reads.{IsMarkAt}
@@ -138,9 +139,6 @@ below_next : (n m : ℕ) → n ≤ m → n < suc m
 below_next n m h = omega arith
 
 -- ---- rows
-
-All-three : {X : Type 0} (P : X → Type 0) (x y z : X) → P x → P y → P z → All P (x ∷ y ∷ z ∷ [])
-All-three P x y z p q r = All-cons P x (y ∷ z ∷ []) p (All-cons P y (z ∷ []) q (All-cons P z [] r (All-nil P)))
 
 component_below : (bytes : List ℕ) (at : ℕ) → FitsAt bytes (field at 16 is_component) → unsigned_abs (signed_in bytes at) < 2 ^ 96
 unfolding signed_in

@@ -5,6 +5,7 @@ use Rattle.std.proofs.lemmas.Grind.{flat_map-append}
 use Rattle.std.proofs.lemmas.List.{take_more, take_all, length-take-le}
 use Rattle.byteorder.specs.Endian.{little_bytes}
 use Rattle.sph_num.specs.declared.particle.Particle.{Particle}
+use Rattle.sph_num.proofs.PastEnd.{no_particle}
 use Rattle.sph_snap.specs.declared.snapshot.SnapRow.{SnapRow}
 use Rattle.sph_snap.specs.Snapshot.{signed_bytes, row_bytes, row_of, rows_from, snapshot_of, spell}
 
@@ -34,10 +35,6 @@ rows_from_push number (x ∷ ps) p =
 pub length-rows_from : (number : ℕ) (ps : List Particle) → length (rows_from number ps) ≡ length ps
 length-rows_from number [] = refl
 length-rows_from number (p ∷ ps) = ap suc (length-rows_from (suc number) ps)
-
--- what a read past the end of the particles gives
-abbrev pub no_particle : Particle
-no_particle = record { mass = 0; h = 0; x0 = []; t0 = 0; p = []; q = []; f = []; rho = 0; g = 0; bin = 0 }
 
 -- one more row behind those of the particles before it
 pub rows_next : (list : List Particle) (base out next : List ℕ) (i : ℕ) → i < length list

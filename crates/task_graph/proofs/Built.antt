@@ -1,12 +1,10 @@
 -- What is known of a graph's edges and tasks from the lists that they are built of.
 use Rattle.std.proofs.Common.{◌≡◌, ℕ, ◌<◌, ◌^◌, Bool, List, length, map, sym, ap, ◌∙◌, subst, arith}
-use Rattle.std.specs.List.Sorted.{IsStrictlyIncreasing}
 use Rattle.std.proofs.lemmas.List.{length-map}
 use Rattle.cell_tree.specs.declared.tree.Span.{Span}
 use Rattle.cell_tree.specs.Laws.{CanBeMade}
 use Rattle.cell_tree.specs.Tree.{Made}
-use Rattle.task_weight.specs.Edges.{AreForward}
-use Rattle.task_weight.specs.Paths.{after_of}
+use Rattle.task_weight.specs.Edges.{AreForward, AreRising}
 use Rattle.task_graph.specs.declared.task.Task.{Task}
 use Rattle.task_graph.specs.Graph.{edges_between}
 use Rattle.task_graph.specs.Parts.{AreEdgeLists}
@@ -37,6 +35,5 @@ module _ {made : Made} {spans : List Span} {due : List Bool} {drift : Bool} {edg
   pub edges_forward : AreForward edges
   edges_forward = subst AreForward (sym between) (forward made spans due drift)
 
-  pub edges_rise : (task : ℕ) → task < length edges → IsStrictlyIncreasing (after_of edges task)
-  edges_rise =
-      subst (λ e. (task : ℕ) → task < length e → IsStrictlyIncreasing (after_of e task)) (sym between) (rising_edges made (tasks_of made spans due drift))
+  pub edges_rise : AreRising edges
+  edges_rise = subst AreRising (sym between) (rising_edges made (tasks_of made spans due drift))

@@ -6,9 +6,10 @@ use Rattle.cell_tree.specs.Due.{AreDueBefore}
 use Rattle.cell_tree.specs.Spans.{leaf_cells}
 use Rattle.cell_tree.specs.Tree.{Made, AreLeavesBelow, cell_at, leaf_count}
 use Rattle.cell_tree.proofs.LeafCells.{IsLeafCell-at, length-leaf_cells}
+use Rattle.cell_tree.proofs.DueLeaves.{counts_rise}
 use Rattle.task_graph.specs.LeafLists.{AreCountsOf, AreInCell}
 use Rattle.task_graph.specs.Tasks.{due_cells}
-use Rattle.task_graph.proofs.DueCounts.{counts_last, counts_most, counts_rise, due_inside, due_passes}
+use Rattle.task_graph.proofs.DueCounts.{counts_last, counts_most, due_inside, due_passes}
 use Rattle.task_graph.proofs.Lying.{CubeContains-from_test, test_from_CubeContains}
 
 -- the counts of leaves with a due member tell of those

@@ -7,8 +7,8 @@ use Rattle.cell_tree.specs.declared.tree.Span.{Span}
 use Rattle.cell_tree.specs.Due.{has_due, AreDueBefore}
 use Rattle.cell_tree.specs.Spans.{IsOtherCell, IsSpan, leaf_cells}
 use Rattle.cell_tree.specs.Tree.{Made, cell_at, leaf_count, numbers_from, AreLeavesBelow, IsLeafCell}
+use Rattle.cell_tree.proofs.DueLeaves.{counts_rise}
 use Rattle.cell_tree.proofs.LeafCells.{filter_place, get_or-leaf_cells, IsLeafCell-at, length-leaf_cells, passes_after, ranges_apart}
-use Rattle.cell_tree.proofs.LeafCounts.{count_by-take}
 use Rattle.task_graph.specs.Joined.{counted_between, dues_below}
 use Rattle.task_graph.specs.Tasks.{due_cells, is_below_span, lies_in, lies_in_some}
 use Rattle.task_graph.proofs.Lying.{CubeContains-from_test, test_from_CubeContains}
@@ -48,12 +48,6 @@ module _ (made : Made) (due : List Bool) (before : List ℕ) (are : AreDueBefore
       let more = sum_by_more (λ x. cond (p x) 1 0) cells leaf 0 (omega (arith, length-leaf_cells made)) in
       rw e (count_step leaf (omega arith) ∙ ap (λ n. n + (if p (get_or cells leaf 0) then 1 else 0)) (counts_are leaf (omega arith)) ∙ sym more)
 
-  -- they never fall
-  pub counts_rise : (i j : ℕ) → i ≤ j → j ≤ leaf_count made → get_or before i 0 ≤ get_or before j 0
-  counts_rise i j l m =
-      let h = count_by-take (has_due made due) (leaf_cells made) i j l in
-      omega (arith, counts_are i (omega arith), counts_are j m)
-
   -- the last one is that of all
   pub counts_last : get_or before (leaf_count made) 0 ≡ length (due_cells made due)
   counts_last =
@@ -63,7 +57,7 @@ module _ (made : Made) (due : List Bool) (before : List ℕ) (are : AreDueBefore
       ∙ sym (length-filter (has_due made due) cells)
 
   pub counts_most : (i : ℕ) → i ≤ leaf_count made → get_or before i 0 ≤ length (due_cells made due)
-  counts_most i l = let h = counts_rise i (leaf_count made) l (omega arith) in omega (arith, counts_last)
+  counts_most i l = let h = counts_rise made due before are i (leaf_count made) l (omega arith) in omega (arith, counts_last)
 
   -- each number is that of a leaf
   pub due_leaf : (number : ℕ) → number < length (due_cells made due) → IsDueLeaf made due before number
@@ -90,8 +84,8 @@ module _ (made : Made) (due : List Bool) (before : List ℕ) (are : AreDueBefore
         let w = due_leaf number l in
         let r = below.outside w.leaf (get_or (due_cells made due) number 0) w.is (CubeContains-from_test (cell_at made cell).cube (cell_at made (get_or (due_cells made due) number 0)).cube t) in
         let within = below.within in
-        let low = counts_rise from w.leaf r.0 (omega (arith, w.below)) in
-        let high = counts_rise (w.leaf + 1) to (omega (arith, r.1)) within in
+        let low = counts_rise made due before are from w.leaf r.0 (omega (arith, w.below)) in
+        let high = counts_rise made due before are (w.leaf + 1) to (omega (arith, r.1)) within in
         (omega (arith, w.count), omega (arith, w.next))
 
     pub due_passes : (number : ℕ) → number < length (due_cells made due) → get_or before from 0 ≤ number → number < get_or before to 0 → lies_in made cell (get_or (due_cells made due) number 0) ≡ true
@@ -101,12 +95,12 @@ module _ (made : Made) (due : List Bool) (before : List ℕ) (are : AreDueBefore
         let some = below.some in
         let wb = w.below in
         let a : from ≤ w.leaf = elim (cases_lt w.leaf from) [
-          | inl m ↦ let h = counts_rise (w.leaf + 1) from (omega arith) (omega arith) in absurd (omega (arith, w.next))
+          | inl m ↦ let h = counts_rise made due before are (w.leaf + 1) from (omega arith) (omega arith) in absurd (omega (arith, w.next))
           | inr m ↦ m
         ] in
         let b : w.leaf < to = elim (cases_lt w.leaf to) [
           | inl m ↦ m
-          | inr m ↦ let h = counts_rise to w.leaf m (omega arith) in absurd (omega (arith, w.count))
+          | inr m ↦ let h = counts_rise made due before are to w.leaf m (omega arith) in absurd (omega (arith, w.count))
         ] in
         test_from_CubeContains (cell_at made cell).cube (cell_at made (get_or (due_cells made due) number 0)).cube (below.inside w.leaf (get_or (due_cells made due) number 0) w.is a b)
 
@@ -141,7 +135,7 @@ module _ (made : Made) (due : List Bool) (before : List ℕ) (are : AreDueBefore
       let low = numbers_from (get_or before from 0) (get_or before to 0 - get_or before from 0) in
       let high = numbers_from (get_or before from' 0) (get_or before to' 0 - get_or before from' 0) in
       let is = filter_ranges (λ k. is_below_span made span (get_or (due_cells made due) k 0)) (length (due_cells made due)) (get_or before from 0) (get_or before to 0) (get_or before from' 0) (get_or before to' 0)
-      (counts_rise to from' after (omega arith)) (counts_rise from' to' rises within) (counts_most to' within) inside passes passes' in
+      (counts_rise made due before are to from' after (omega arith)) (counts_rise made due before are from' to' rises within) (counts_most to' within) inside passes passes' in
       ap (λ ks. ks ++ counted_between before first from' to') (counted_is first from to)
       ∙ ap (λ ks. map (λ i. first + i) low ++ ks) (counted_is first from' to')
       ∙ sym (map-append (λ i. first + i) low high) ∙ ap (map (λ i. first + i)) (sym is)

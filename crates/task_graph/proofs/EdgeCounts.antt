@@ -1,14 +1,12 @@
 -- Edges counted at their ends.
-use Rattle.std.proofs.Common.{◌≡◌, ℕ, ◌+◌, ◌<◌, ◌≤◌, cond, eqb, List, [], length, map, take, get_or, refl, sym, ap, ◌∙◌, subst, count_by, arith, length-take}
+use Rattle.std.proofs.Common.{◌≡◌, ℕ, ◌<◌, ◌≤◌, cond, eqb, List, [], length, take, get_or, refl, sym, ap, ◌∙◌, subst, count_by, arith, length-take}
 use Rattle.std.specs.List.{All}
 use Rattle.std.specs.List.Sorted.{IsStrictlyIncreasing}
 use Rattle.std.proofs.lemmas.Bool.{eqb-true, eq-eqb}
-use Rattle.std.proofs.lemmas.List.{same_lists, length-map, get_or-map, get_or_default}
+use Rattle.std.proofs.lemmas.List.{get_or_default}
 use Rattle.std.proofs.lemmas.List.Elements.{All-take}
 use Rattle.std.proofs.lemmas.List.Kept.{AllPairs-from_increasing}
 use Rattle.std.proofs.lemmas.List.Sums.{sum_by_more_le, sum_by-le}
-use Rattle.cell_tree.specs.Tree.{numbers_from}
-use Rattle.cell_tree.proofs.Members.{length-numbers_from, get_or-numbers_from}
 use Rattle.cell_tree.proofs.Rising.{count_one}
 use Rattle.task_weight.specs.Paths.{after_of}
 use Rattle.task_graph.specs.Graph.{edges_into}
@@ -33,11 +31,3 @@ edges_into-le edges rising n task few =
     let each : All (λ afters. count_by (λ after. eqb after task) afters ≤ 1) edges =
     λ k d below. subst (λ afters. count_by (λ after. eqb after task) afters ≤ 1) (get_or_default edges k [] d below) (once (after_of edges k) (rising k below) task) in
     omega (arith, sum_by-le (count_by (λ after. eqb after task)) 1 (take n edges) (All-take (λ afters. count_by (λ after. eqb after task) afters ≤ 1) n edges each), length-take n edges)
-
--- a list by its numbers
-pub by_numbers : {X : Type 0} (f : ℕ → X) (xs : List X) (n : ℕ) → length xs ≡ n → ((k : ℕ) (d : X) → k < n → get_or xs k d ≡ f k) → xs ≡ map f (numbers_from 0 n)
-by_numbers f xs n long each =
-    same_lists xs (map f (numbers_from 0 n)) (long ∙ sym (length-map (numbers_from 0 n) f ∙ length-numbers_from 0 n)) (λ k d below.
-    let l : k < n = omega arith in
-    let at : 0 + k ≡ k = omega arith in
-    each k d l ∙ sym (get_or-map f (numbers_from 0 n) k 0 d (omega (arith, length-numbers_from 0 n)) ∙ ap f (get_or-numbers_from 0 n k 0 l ∙ at)))

@@ -15,7 +15,7 @@ use Rattle.task_graph.proofs.OnCells.{drifting_is_leaf, due_is_leaf}
 use Rattle.task_graph.proofs.Segments.{InSegment, all_segments, in_segment, stands_at, length-all_segments}
 use Rattle.task_graph.proofs.Touching.{leaf_shares, shares_leaf}
 use Rattle.task_graph.proofs.Places.{element_at}
-use Rattle.task_graph.proofs.NumberedLists.{lists_are, five_parts}
+use Rattle.task_graph.proofs.NumberedLists.{by_numbers, five_parts}
 use Rattle.task_graph.proofs.Links.{IsLink, linked_lists, none_wait}
 
 module _ (made : Made) (drifts : List ℕ) (spans : List Span) (dues : List ℕ) (drifts_are_leaves : (cell : ℕ) → Contains drifts cell → Contains (leaf_cells made) cell) (dues_are_leaves : (cell : ℕ) → Contains dues cell → Contains (leaf_cells made) cell) where
@@ -61,7 +61,7 @@ module _ (made : Made) (drifts : List ℕ) (spans : List Span) (dues : List ℕ)
   kick_lists : replicate (length dues) [] ≡ map (successors_of made tasks) (numbers_from (length drifts + length spans + length dues + length spans) (length dues))
   kick_lists =
       let first = length drifts + length spans + length dues + length spans in
-      lists_are (successors_of made tasks) (replicate (length dues) []) first (length dues) (length-replicate (length dues) [])
+      by_numbers (successors_of made tasks) [] (replicate (length dues) []) first (length dues) (length-replicate (length dues) [])
       (λ k below.
       let w = element_at dues k below in
       get_or-replicate (length dues) k [] [] below

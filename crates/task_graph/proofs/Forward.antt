@@ -12,7 +12,7 @@ use Rattle.cell_tree.specs.declared.tree.Span.{Span}
 use Rattle.cell_tree.specs.Tree.{Made, numbers_from}
 use Rattle.cell_tree.proofs.Members.{length-numbers_from, get_or-numbers_from, below_from_numbers}
 use Rattle.cell_tree.proofs.Rising.{Rises-numbers_from, IsStrictlyIncreasing-from_Rises}
-use Rattle.task_weight.specs.Edges.{AreForward}
+use Rattle.task_weight.specs.Edges.{AreForward, AreRising}
 use Rattle.task_weight.specs.Paths.{after_of}
 use Rattle.task_graph.specs.declared.task.Task.{Task}
 use Rattle.task_graph.specs.Graph.{edges_between, is_edge, successors_of, task_at, waits_for}
@@ -38,7 +38,7 @@ module _ (made : Made) (tasks : List Task) where
       IsStrictlyIncreasing-filter (λ after. is_edge made (task_at tasks task) (task_at tasks after)) (numbers_from 0 (length tasks))
       (IsStrictlyIncreasing-from_Rises (numbers_from 0 (length tasks)) (Rises-numbers_from 0 (length tasks)))
 
-  pub rising_edges : (task : ℕ) → task < length (edges_between made tasks) → IsStrictlyIncreasing (after_of (edges_between made tasks) task)
+  pub rising_edges : AreRising (edges_between made tasks)
   rising_edges task below =
       subst IsStrictlyIncreasing (sym (after_of-edges_between task (omega (arith, length-edges_between)))) (rising_successors task)
 

@@ -1,5 +1,5 @@
 -- The lists of the numbers of what is related to each of some elements.
-use Rattle.std.proofs.Common.{◌≡◌, ℕ, ◌+◌, ◌<◌, Bool, List, [], ◌∷◌, ◌++◌, map, filter, length, get_or, slice_index, replicate, sym, ap, ◌∙◌, subst, None, arith}
+use Rattle.std.proofs.Common.{◌≡◌, ℕ, ◌+◌, ◌<◌, Bool, List, [], ◌∷◌, ◌++◌, map, filter, length, get_or, replicate, sym, ap, ◌∙◌, subst, None, arith}
 use Rattle.std.specs.Prelude.{◌↔◌}
 use Rattle.std.specs.List.{Contains}
 use Rattle.std.specs.List.Sorted.{IsStrictlyIncreasing}
@@ -9,13 +9,13 @@ use Rattle.std.proofs.lemmas.Simd.{map-map}
 use Rattle.std.proofs.lemmas.Option.{get_or_from_slice_get, slice_get-get_or, slice_get_within}
 use Rattle.sph_num.proofs.Members.{Contains-filter, Contains-from_filter, passes_from_filter}
 use Rattle.cell_tree.specs.declared.tree.Span.{Span}
-use Rattle.cell_tree.specs.Spans.{leaf_cells}
 use Rattle.cell_tree.specs.Tree.{Made, numbers_from}
 use Rattle.cell_tree.proofs.Members.{below_from_numbers, Contains-numbers}
 use Rattle.task_graph.specs.Joined.{counted_from, dues_below, joined_to}
 use Rattle.task_graph.specs.Parts.{AreEdgeLists, AreJoined, AreLeavesFor, AreLeavesOf, IsJoinedAt, has_above, spans_above}
 use Rattle.task_graph.specs.Tasks.{drifting_leaves, due_cells, is_below_span}
 use Rattle.cell_tree.proofs.Rising.{IsStrictlyIncreasing-from_Rises}
+use Rattle.task_graph.proofs.LeafNumbers.{length-leaves_of}
 use Rattle.task_graph.proofs.Ranges.{Rises-filter_numbers, Rises-map_add}
 
 module _ {A B : Type 0} (relates : A → B → Bool) (others : List B) (none : B) (first : ℕ) where
@@ -83,35 +83,32 @@ leaves_are_joined made spans first cells lists are =
     let is : map (counted_from first) lists ≡ map (joined_to (has_above made) spans no_span first) cells = ap (map (counted_from first)) are ∙ map-map (counted_from first) (spans_above made spans) cells in
     subst (AreJoined (has_above made) cells spans first) (sym is) (AreJoined-map (has_above made) spans no_span first cells)
 
-pub length-leaves_of : (made : Made) (cells numbers : List ℕ) → AreLeavesOf made cells numbers → length numbers ≡ length cells
-length-leaves_of made cells numbers of = sym (length-map numbers (slice_index (leaf_cells made))) ∙ ap length of.cells_are
-
 -- one list for each leaf
 pub one_list_each : (made : Made) (spans : List Span) (cells numbers : List ℕ) (lists : List (List ℕ)) → AreLeavesOf made cells numbers → lists ≡ map (spans_above made spans) cells → length lists ≡ length numbers
 one_list_each made spans cells numbers lists of are = ap length are ∙ length-map cells (spans_above made spans) ∙ sym (length-leaves_of made cells numbers of)
 
 -- the lists of a graph
-pub are_edge_lists : (made : Made) (spans : List Span) (due : List Bool) (drift : Bool) (drifting : List ℕ) (at_drifting : List (List ℕ)) (dues : List ℕ) (at_dues : List (List ℕ)) (before : List ℕ) (densities ghosts forces kicks last : ℕ)
-    → AreLeavesFor made spans due drift drifting at_drifting dues at_dues before
+pub are_edge_lists : (made : Made) (spans : List Span) (due : List Bool) (drift : Bool) (drifting : List ℕ) (above_drifting : List (List ℕ)) (dues : List ℕ) (above_dues : List (List ℕ)) (before : List ℕ) (densities ghosts forces kicks last : ℕ)
+    → AreLeavesFor made spans due drift drifting above_drifting dues above_dues before
     → densities ≡ length drifting → ghosts ≡ length drifting + length spans → forces ≡ length drifting + length spans + length dues → kicks ≡ length drifting + length spans + length dues + length spans → last ≡ length dues
     → AreEdgeLists made spans due drift
-    (map (counted_from densities) at_drifting ++ map (dues_below made due ghosts) spans ++ map (counted_from forces) at_dues ++ map (dues_below made due kicks) spans ++ replicate last [])
-are_edge_lists made spans due drift drifting at_drifting dues at_dues before densities ghosts forces kicks last are d g f k e =
-    let drifts = map (counted_from densities) at_drifting in
-    let long : length drifts ≡ length drifting = length-map at_drifting (counted_from densities) ∙ one_list_each made spans _ _ _ are.drifting_are are.at_drifting_are in
+    (map (counted_from densities) above_drifting ++ map (dues_below made due ghosts) spans ++ map (counted_from forces) above_dues ++ map (dues_below made due kicks) spans ++ replicate last [])
+are_edge_lists made spans due drift drifting above_drifting dues above_dues before densities ghosts forces kicks last are d g f k e =
+    let drifts = map (counted_from densities) above_drifting in
+    let long : length drifts ≡ length drifting = length-map above_drifting (counted_from densities) ∙ one_list_each made spans _ _ _ are.drifting_are are.above_drifting_are in
     let count = length-leaves_of made (due_cells made due) dues are.dues_are in
     record {
       drifts = drifts;
       densities = map (dues_below made due ghosts) spans;
-      ghosts = map (counted_from forces) at_dues;
+      ghosts = map (counted_from forces) above_dues;
       forces = map (dues_below made due kicks) spans;
-      all = ap (λ n. drifts ++ map (dues_below made due ghosts) spans ++ map (counted_from forces) at_dues ++ map (dues_below made due kicks) spans ++ replicate n []) (e ∙ count);
+      all = ap (λ n. drifts ++ map (dues_below made due ghosts) spans ++ map (counted_from forces) above_dues ++ map (dues_below made due kicks) spans ++ replicate n []) (e ∙ count);
       drifts_are = subst (λ n. AreJoined (has_above made) (drifting_leaves made spans drift) spans n drifts) (d ∙ sym long)
-          (leaves_are_joined made spans densities (drifting_leaves made spans drift) at_drifting are.at_drifting_are);
+          (leaves_are_joined made spans densities (drifting_leaves made spans drift) above_drifting are.above_drifting_are);
       densities_are = subst (λ n. AreJoined (is_below_span made) spans (due_cells made due) n (map (dues_below made due ghosts) spans)) (omega arith)
           (AreJoined-map (is_below_span made) (due_cells made due) 0 ghosts spans);
-      ghosts_are = subst (λ n. AreJoined (has_above made) (due_cells made due) spans n (map (counted_from forces) at_dues)) (omega arith)
-          (leaves_are_joined made spans forces (due_cells made due) at_dues are.at_dues_are);
+      ghosts_are = subst (λ n. AreJoined (has_above made) (due_cells made due) spans n (map (counted_from forces) above_dues)) (omega arith)
+          (leaves_are_joined made spans forces (due_cells made due) above_dues are.above_dues_are);
       forces_are = subst (λ n. AreJoined (is_below_span made) spans (due_cells made due) n (map (dues_below made due kicks) spans)) (omega arith)
           (AreJoined-map (is_below_span made) (due_cells made due) 0 kicks spans);
     }

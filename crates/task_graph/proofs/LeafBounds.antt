@@ -40,23 +40,23 @@ leaves_most made cells numbers of =
     (All-from_Contains (λ leaf. leaf < leaf_count made) numbers of.below)
 
 -- of the leaves that drift and of those with a due member there are few, and each has a list
-pub record AreFew (drifting : List ℕ) (at_drifting : List (List ℕ)) (dues : List ℕ) (at_dues : List (List ℕ)) : Type 0 where
+pub record AreFew (drifting : List ℕ) (above_drifting : List (List ℕ)) (dues : List ℕ) (above_dues : List (List ℕ)) : Type 0 where
   pub few_drift : length drifting ≤ 360448
-  pub drifts : length at_drifting ≡ length drifting
+  pub drifts : length above_drifting ≡ length drifting
   pub few_due : length dues ≤ 360448
-  pub dues_each : length at_dues ≡ length dues
+  pub dues_each : length above_dues ≡ length dues
 
-pub lists_few : (made : Made) (spans : List Span) (due : List Bool) (drift : Bool) (drifting : List ℕ) (at_drifting : List (List ℕ)) (dues : List ℕ) (at_dues : List (List ℕ)) (before : List ℕ) → CanBeMade made
-    → AreLeavesFor made spans due drift drifting at_drifting dues at_dues before → AreFew drifting at_drifting dues at_dues
-lists_few made spans due drift drifting at_drifting dues at_dues before can are =
+pub lists_few : (made : Made) (spans : List Span) (due : List Bool) (drift : Bool) (drifting : List ℕ) (above_drifting : List (List ℕ)) (dues : List ℕ) (above_dues : List (List ℕ)) (before : List ℕ) → CanBeMade made
+    → AreLeavesFor made spans due drift drifting above_drifting dues above_dues before → AreFew drifting above_drifting dues above_dues
+lists_few made spans due drift drifting above_drifting dues above_dues before can are =
     let few = leaves_few made can in
     let a = leaves_most made (drifting_leaves made spans drift) drifting are.drifting_are in
     let b = leaves_most made (due_cells made due) dues are.dues_are in
     record {
       few_drift = omega arith;
-      drifts = one_list_each made spans (drifting_leaves made spans drift) drifting at_drifting are.drifting_are are.at_drifting_are;
+      drifts = one_list_each made spans (drifting_leaves made spans drift) drifting above_drifting are.drifting_are are.above_drifting_are;
       few_due = omega arith;
-      dues_each = one_list_each made spans (due_cells made due) dues at_dues are.dues_are are.at_dues_are;
+      dues_each = one_list_each made spans (due_cells made due) dues above_dues are.dues_are are.above_dues_are;
     }
 
 -- the counts of leaves with a due member fit behind a number

@@ -14,7 +14,7 @@ use Rattle.cell_tree.specs.Laws.{CanBeMade}
 use Rattle.cell_tree.specs.Spans.{leaf_cells}
 use Rattle.cell_tree.specs.Tree.{Made, leaf_count, numbers_from}
 use Rattle.cell_tree.proofs.LeafCells.{length-leaf_cells, get_or-leaf_cells}
-use Rattle.cell_tree.proofs.Members.{length-numbers_from, get_or-numbers_from, below_from_numbers}
+use Rattle.cell_tree.proofs.Members.{numbers_rise, below_from_numbers}
 use Rattle.cell_tree.proofs.OctantLists.{numbers_more}
 use Rattle.cell_tree.proofs.Orders.{cells_few}
 use Rattle.cell_tree.proofs.TreeLists.{leaf_count-le}
@@ -63,17 +63,9 @@ module _ {X : Type 0} (p : X → Bool) (d : X) (xs : List X) where
   pub passes_by_number : map (λ k. get_or xs k d) (filter (λ k. p (get_or xs k d)) (numbers_from 0 (length xs))) ≡ filter p xs
   passes_by_number = first_passes (length xs) (omega arith) ∙ ap (filter p) (take_all (length xs) xs (omega arith))
 
--- the number at a place of those from 0 on
-pub number_at : (n k d : ℕ) → k < n → get_or (numbers_from 0 n) k d ≡ k
-number_at n k d l = get_or-numbers_from 0 n k d l ∙ omega arith
-
--- numbers from 0 on rise
-numbers_rise : (n : ℕ) → IsStrictlyIncreasing (numbers_from 0 n)
-numbers_rise n k l =
-    let long = length-numbers_from 0 n in
-    let low = number_at n k 0 (omega arith) in
-    let high = number_at n (k + 1) 0 (omega arith) in
-    omega arith
+-- leaves by their numbers are as many as by their cells
+pub length-leaves_of : (made : Made) (cells numbers : List ℕ) → AreLeavesOf made cells numbers → length numbers ≡ length cells
+length-leaves_of made cells numbers are = sym (length-map numbers (slice_index (leaf_cells made))) ∙ ap length are.cells_are
 
 -- the leaves whose cells pass
 pub AreLeavesOf-passing : (made : Made) (p : ℕ → Bool) (numbers : List ℕ) → numbers ≡ filter (λ leaf. p (slice_index (leaf_cells made) leaf)) (numbers_from 0 (leaf_count made)) → AreLeavesOf made (filter p (leaf_cells made)) numbers

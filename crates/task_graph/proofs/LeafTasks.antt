@@ -1,7 +1,6 @@
 -- How many leaves have tasks, and that the tasks' costs have a sum that fits.
-use Rattle.std.proofs.Common.{◌≡◌, ℕ, ◌<◌, ◌≤◌, ◌^◌, Bool, true, false, List, filter, length, slice_index, ap, ◌∙◌, sym, arith}
+use Rattle.std.proofs.Common.{ℕ, ◌<◌, ◌≤◌, ◌^◌, Bool, true, false, List, filter, length, arith}
 use Rattle.std.specs.List.{All, list_any, sum_by}
-use Rattle.std.proofs.lemmas.List.{length-map}
 use Rattle.std.proofs.lemmas.List.Sums.{length-filter, count_by-le-length, sum_by-le}
 use Rattle.cell_tree.specs.declared.tree.Span.{Span}
 use Rattle.cell_tree.specs.Due.{has_due}
@@ -13,6 +12,7 @@ use Rattle.cell_tree.proofs.Orders.{cells_few}
 use Rattle.cell_tree.proofs.TreeLists.{leaf_count-le}
 use Rattle.task_graph.specs.Parts.{AreLeavesOf}
 use Rattle.task_graph.specs.Tasks.{is_below_span, drifting_leaves, due_cells}
+use Rattle.task_graph.proofs.LeafNumbers.{length-leaves_of}
 
 module _ (made : Made) (can : CanBeMade made) where
   -- some of the leaves are no more than there may be cells
@@ -28,15 +28,11 @@ module _ (made : Made) (can : CanBeMade made) where
   pub due_few : (due : List Bool) → length (due_cells made due) ≤ 360448
   due_few due = some_leaves (has_due made due)
 
-  -- leaves by their numbers are as many as by their cells
-  same_count : (cells numbers : List ℕ) → AreLeavesOf made cells numbers → length numbers ≡ length cells
-  same_count cells numbers are = sym (length-map numbers (slice_index (leaf_cells made))) ∙ ap length are.cells_are
-
   pub drifting_numbers_few : (spans : List Span) (drift : Bool) (numbers : List ℕ) → AreLeavesOf made (drifting_leaves made spans drift) numbers → length numbers ≤ 360448
-  drifting_numbers_few spans drift numbers are = omega (arith, same_count (drifting_leaves made spans drift) numbers are, drifting_few spans drift)
+  drifting_numbers_few spans drift numbers are = omega (arith, length-leaves_of made (drifting_leaves made spans drift) numbers are, drifting_few spans drift)
 
   pub due_numbers_few : (due : List Bool) (numbers : List ℕ) → AreLeavesOf made (due_cells made due) numbers → length numbers ≤ 360448
-  due_numbers_few due numbers are = omega (arith, same_count (due_cells made due) numbers are, due_few due)
+  due_numbers_few due numbers are = omega (arith, length-leaves_of made (due_cells made due) numbers are, due_few due)
 
 -- fewer than 2^32 costs of at most 2^30 have a sum below 2^64
 pub costs_fit : (costs : List ℕ) → All (λ cost. cost ≤ 2 ^ 30) costs → length costs < 2 ^ 32 → sum_by (λ cost. cost) costs < 2 ^ 64

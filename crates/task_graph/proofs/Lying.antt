@@ -1,16 +1,10 @@
 -- The test whether a cube lies in another.
-use Rattle.std.proofs.Common.{◌≡◌, ℕ, zero, suc, ◌-◌, ◌/◌, ◌^◌, ◌<◌, true, slice_index, arith}
+use Rattle.std.proofs.Common.{◌≡◌, ℕ, ◌-◌, ◌/◌, ◌^◌, ◌<◌, true, slice_index, arith}
 use Rattle.std.proofs.lemmas.Bool.{and_parts, and_from, eqb-true, eq-eqb, leb-true, le-leb}
 use Rattle.cell_geom.specs.declared.cube.Cube.{Cube}
 use Rattle.cell_geom.specs.Cube.{CubeContains}
+use Rattle.cell_geom.proofs.Nesting.{each_axis}
 use Rattle.task_graph.specs.Tasks.{cube_lies_in, lies_along}
-
--- what holds on each of three axes
-each_axis : (P : ℕ → Type 0) → P 0 → P 1 → P 2 → (axis : ℕ) → axis < 3 → P axis
-each_axis P x y z zero h = x
-each_axis P x y z (suc zero) h = y
-each_axis P x y z (suc (suc zero)) h = z
-each_axis P x y z (suc (suc (suc n))) h = absurd (omega arith)
 
 -- a cube that passes lies in the other
 pub CubeContains-from_test : (outer inner : Cube) → cube_lies_in outer inner ≡ true → CubeContains outer inner

@@ -1,5 +1,5 @@
 -- Lists of numbers that a function gives for the numbers from a first one on.
-use Rattle.std.proofs.Common.{◌≡◌, ℕ, zero, suc, ◌+◌, ◌<◌, ◌↔◌, Bool, List, [], ◌∷◌, ◌++◌, Contains, length, map, slice_get, slice_index_or, Some, sym, ap, ◌∙◌, arith}
+use Rattle.std.proofs.Common.{◌≡◌, ℕ, zero, suc, ◌+◌, ◌<◌, ◌↔◌, Bool, List, [], ◌∷◌, ◌++◌, Contains, length, map, get_or, slice_get, slice_index_or, Some, sym, ap, ◌∙◌, arith}
 use Rattle.std.proofs.lemmas.List.{length-map, get_or-map, get_or_default, map-append, same_lists}
 use Rattle.std.proofs.lemmas.List.Kept.{AllPairs-from_increasing}
 use Rattle.cell_tree.specs.Tree.{numbers_from}
@@ -7,6 +7,15 @@ use Rattle.cell_tree.proofs.Members.{length-numbers_from, get_or-numbers_from}
 use Rattle.cell_tree.proofs.Rising.{Rises, same_rising}
 use Rattle.task_graph.specs.Parts.{AreJoined, IsJoinedAt}
 use Rattle.task_graph.proofs.Places.{element_at}
+
+-- a list whose elements a function gives one by one
+pub by_numbers : {X : Type 0} (f : ℕ → X) (d : X) (xs : List X) (first n : ℕ) → length xs ≡ n → ((k : ℕ) → k < n → get_or xs k d ≡ f (first + k)) → xs ≡ map f (numbers_from first n)
+by_numbers f d xs first n long each =
+    let count = length-numbers_from first n in
+    same_lists xs (map f (numbers_from first n)) (long ∙ sym (length-map (numbers_from first n) f ∙ count))
+    (λ k e below.
+    let l : k < n = omega arith in
+    get_or_default xs k e d below ∙ each k l ∙ ap f (sym (get_or-numbers_from first n k 0 l)) ∙ sym (get_or-map f (numbers_from first n) k 0 e (omega arith)))
 
 -- m + n numbers are m and then n
 numbers_from-add : (first m n : ℕ) → numbers_from first (m + n) ≡ numbers_from first m ++ numbers_from (first + m) n
@@ -26,23 +35,14 @@ module _ (f : ℕ → List ℕ) where
       let e : 0 + m ≡ m = omega arith in
       ap (map f) (numbers_from-add 0 m n ∙ ap (λ k. numbers_from 0 m ++ numbers_from k n) e) ∙ map-append f (numbers_from 0 m) (numbers_from m n)
 
-  -- lists that the function gives one by one
-  pub lists_are : (lists : List (List ℕ)) (first n : ℕ) → length lists ≡ n → ((k : ℕ) → k < n → slice_index_or lists k [] ≡ f (first + k)) → lists ≡ map f (numbers_from first n)
-  lists_are lists first n long each =
-      let count = length-numbers_from first n in
-      same_lists lists (map f (numbers_from first n)) (long ∙ sym (length-map (numbers_from first n) f ∙ count))
-      (λ k d below.
-      let l : k < n = omega arith in
-      get_or_default lists k d [] below ∙ each k l ∙ ap f (sym (get_or-numbers_from first n k 0 l)) ∙ sym (get_or-map f (numbers_from first n) k 0 d (omega arith)))
-
-  -- so are lists of the related elements, where each list that the function gives rises and has the same numbers
+  -- lists of the related elements are what the function gives, where each list that it gives rises and has the same numbers
   pub joined_are : {A B : Type 0} (relates : A → B → Bool) (each : List A) (others : List B) (first next : ℕ) (lists : List (List ℕ))
       → AreJoined relates each others next lists
       → ((k : ℕ) → Rises (f k))
       → ((k : ℕ) (a : A) → slice_get each k ≡ Some a → (number : ℕ) → Contains (f (first + k)) number ↔ IsJoinedAt relates a others next number)
       → lists ≡ map f (numbers_from first (length each))
   joined_are {A = A} relates each others first next lists are rise just =
-      lists_are lists first (length each) are.one_each (λ k below. let w = element_at each k below in same_at k below w.0 w.1)
+      by_numbers f [] lists first (length each) are.one_each (λ k below. let w = element_at each k below in same_at k below w.0 w.1)
     where
       same_at : (k : ℕ) → k < length each → (x : A) → slice_get each k ≡ Some x → slice_index_or lists k [] ≡ f (first + k)
       same_at k below x s =

@@ -1,8 +1,8 @@
 -- The lists of spans at some leaves.
-use Rattle.std.proofs.Common.{◌≡◌, ℕ, ◌+◌, ◌<◌, ◌≤◌, Bool, true, false, cond, ◌||◌, List, [], ◌∷◌, ◌++◌, length, get_or, take, drop, map, filter, slice_index, slice_index_or, append-nil, refl, sym, ap, ◌∙◌, subst, inl, inr, arith}
+use Rattle.std.proofs.Common.{◌≡◌, ℕ, ◌+◌, ◌<◌, ◌≤◌, Bool, true, false, cond, ◌||◌, List, [], ◌∷◌, ◌++◌, length, get_or, map, filter, slice_index, slice_index_or, append-nil, refl, sym, ap, ◌∙◌, subst, inl, inr, arith}
 use Rattle.std.specs.Prelude.{Some, None}
 use Rattle.std.proofs.lemmas.Bool.{both_ways, cases_lt, false_from_ne_true}
-use Rattle.std.proofs.lemmas.List.{drop_all, take_all, get_or-map, get_or_default, length-map, same_lists}
+use Rattle.std.proofs.lemmas.List.{get_or-map, get_or_default, length-map, same_lists}
 use Rattle.cell_geom.specs.Cube.{CubeContains}
 use Rattle.cell_tree.specs.declared.tree.Span.{Span}
 use Rattle.cell_tree.specs.Spans.{IsOtherCell, IsSpan}
@@ -85,11 +85,6 @@ module _ (made : Made) where
           ∙ ap (λ c. (old ++ cond a (number ∷ []) []) ++ cond c (number ∷ []) []) (sym same)
           ∙ one_of_two old number a b (λ s t. lies_in-apart span.first second at other.1 other.2 s (sym same ∙ t));
     }
-
--- a list of one length, written over another's front
-pub written_back : (n : ℕ) (xs ys : List (List ℕ)) → n ≡ length xs → length ys ≡ length xs → take n (ys ++ drop (length ys) xs) ≡ ys
-written_back n xs ys e f =
-    ap (λ zs. take n (ys ++ zs)) (drop_all (length ys) xs (omega arith)) ∙ ap (take n) (append-nil ys) ∙ take_all n ys (omega arith)
 
 -- the numbers of the first spans that have a leaf, by its cell, below a cell
 abbrev pub first_spans_above : Made → List Span → ℕ → ℕ → List ℕ

@@ -10,7 +10,7 @@ counted_from first numbers = map (λ number. first + number) numbers
 
 -- the numbers of the related elements of a list, counted from the first number on
 abbrev pub joined_to : {A B : Type 0} → (A → B → Bool) → List B → B → ℕ → A → List ℕ
-joined_to relates others none first a = map (λ number. first + number) (filter (λ number. relates a (slice_index_or others number none)) (numbers_from 0 (length others)))
+joined_to relates others none first a = counted_from first (filter (λ number. relates a (slice_index_or others number none)) (numbers_from 0 (length others)))
 
 -- the numbers of the leaves with a due member below a span's cells, of all such leaves, counted from the first number on
 abbrev pub dues_below : Made → List Bool → ℕ → Span → List ℕ

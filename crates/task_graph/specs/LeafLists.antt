@@ -6,9 +6,9 @@ use Rattle.task_graph.specs.Tasks.{is_below_span, lies_in}
 
 -- the number is added behind each list from the one place up to the other, and the others stay
 pub record AddsWithin (from to number : ℕ) (lists lists' : List (List ℕ)) : Type 0 where
-  pub before : (leaf : ℕ) → leaf < from → slice_index_or lists' leaf [] ≡ slice_index_or lists leaf []
-  pub within : (leaf : ℕ) → from ≤ leaf → leaf < to → slice_index_or lists' leaf [] ≡ slice_index_or lists leaf [] ++ number ∷ []
-  pub behind : (leaf : ℕ) → to ≤ leaf → slice_index_or lists' leaf [] ≡ slice_index_or lists leaf []
+  pub before : (k : ℕ) → k < from → slice_index_or lists' k [] ≡ slice_index_or lists k []
+  pub within : (k : ℕ) → from ≤ k → k < to → slice_index_or lists' k [] ≡ slice_index_or lists k [] ++ number ∷ []
+  pub behind : (k : ℕ) → to ≤ k → slice_index_or lists' k [] ≡ slice_index_or lists k []
 
 -- of some leaves, by their cells, those from the one place up to the other lie in the cell, and no others
 pub record AreInCell (made : Made) (cells : List ℕ) (cell from to : ℕ) : Type 0 where

@@ -28,11 +28,11 @@ pub record AreLeavesOf (made : Made) (cells numbers : List ℕ) : Type 0 where
 
 -- what is known of the leaves: those that drift and those with a due member, each with the spans above it, and how many of the latter
 -- stand before each leaf
-pub record AreLeavesFor (made : Made) (spans : List Span) (due : List Bool) (drift : Bool) (drifting : List ℕ) (at_drifting : List (List ℕ)) (dues : List ℕ) (at_dues : List (List ℕ)) (before : List ℕ) : Type 0 where
+pub record AreLeavesFor (made : Made) (spans : List Span) (due : List Bool) (drift : Bool) (drifting : List ℕ) (above_drifting : List (List ℕ)) (dues : List ℕ) (above_dues : List (List ℕ)) (before : List ℕ) : Type 0 where
   pub drifting_are : AreLeavesOf made (drifting_leaves made spans drift) drifting
-  pub at_drifting_are : at_drifting ≡ map (spans_above made spans) (drifting_leaves made spans drift)
+  pub above_drifting_are : above_drifting ≡ map (spans_above made spans) (drifting_leaves made spans drift)
   pub dues_are : AreLeavesOf made (due_cells made due) dues
-  pub at_dues_are : at_dues ≡ map (spans_above made spans) (due_cells made due)
+  pub above_dues_are : above_dues ≡ map (spans_above made spans) (due_cells made due)
   pub before_are : AreDueBefore made due before
 
 -- the number is that of an element of the list which is related to one of another, numbered from a first number on

@@ -1,12 +1,11 @@
 //! The graph: its tasks, which of them wait for which, what they cost and how urgent they are.
 ghost use Rattle.std.specs.Prelude.{◌≡◌, ◌<◌, ◌≤◌, ◌^◌, ℕ, Bool, List, length, slice_index, All, IfOk};
-ghost use Rattle.std.specs.List.Sorted.{IsStrictlyIncreasing};
 ghost use Rattle.cell_tree.specs.Spans.{IsSpan};
 ghost use Rattle.cell_tree.specs.Tree.{AreLeavesBelow, cells_of};
 ghost use Rattle.task_graph.specs.Graph.{IsPlan, graph_of, task_at};
 ghost use Rattle.task_graph.specs.Parts.{AreLeavesFor};
 ghost use Rattle.task_graph.specs.Tasks.{tasks_of};
-ghost use Rattle.task_weight.specs.Edges.{AreForward};
+ghost use Rattle.task_weight.specs.Edges.{AreForward, AreRising};
 ghost use Rattle.task_weight.specs.Paths.{AreWeights, after_of};
 
 use crate::costs::costs_of;
@@ -49,8 +48,8 @@ fn all_tasks(
     spans: &[Span],
     leaves: &Leaves,
 ) -> Result<Vec<Task>, AllocError>
-    requires { (due : List Bool) × (drift : Bool) × AreLeavesFor tree.now spans.now due drift leaves.now.drifting.items leaves.now.at_drifting.items leaves.now.dues.items leaves.now.at_dues.items leaves.now.due_before.items }
-    ensures { (due : List Bool) (drift : Bool) → AreLeavesFor tree.now spans.now due drift leaves.now.drifting.items leaves.now.at_drifting.items leaves.now.dues.items leaves.now.at_dues.items leaves.now.due_before.items
+    requires { (due : List Bool) × (drift : Bool) × AreLeavesFor tree.now spans.now due drift leaves.now.drifting.items leaves.now.above_drifting.items leaves.now.dues.items leaves.now.above_dues.items leaves.now.due_before.items }
+    ensures { (due : List Bool) (drift : Bool) → AreLeavesFor tree.now spans.now due drift leaves.now.drifting.items leaves.now.above_drifting.items leaves.now.dues.items leaves.now.above_dues.items leaves.now.due_before.items
         → IfOk result (λ v. v.items ≡ tasks_of tree.now spans.now due drift) }
 {
     let mut tasks = Vec::new(alloc);
@@ -78,7 +77,7 @@ impl Graph {
         ensures value { IfOk result (λ plan. plan ≡ graph_of tree.now spans.now due.now drift) }
         ensures weights { IfOk result (λ plan. AreWeights plan.costs plan.successors plan.weights) }
         ensures forward { IfOk result (λ plan. AreForward plan.successors) }
-        ensures rising { IfOk result (λ plan. (task : ℕ) → task < length plan.successors → IsStrictlyIncreasing (after_of plan.successors task)) }
+        ensures rising { IfOk result (λ plan. AreRising plan.successors) }
     {
         let leaves = Leaves::of(alloc, tree, spans, due, drift)?;
         let tasks = all_tasks(alloc, tree, spans, &leaves)?;
@@ -338,37 +337,43 @@ mod tests {
         assert!(rt; tree.cells() == 11);
         assert!(rt; tree.leaves_below(1).1 <= tree.leaves_below(6).0);
         let spans = spans_of(&tree, 1, 6);
-        let due = [true, false, false, false, true, false, false, false];
+        let due = [true, true, false, false, true, false, false, false];
         let graph = Graph::build(rt.alloc(), &tree, &spans, &due, false)?;
-        assert_eq!(rt; graph.tasks(), 10);
+        assert_eq!(rt; graph.tasks(), 12);
         let edges = all_edges(rt.alloc(), &graph)?;
         assert_eq!(rt;
             edges.as_slice(),
             [
                 (0, 3),
-                (1, 4),
+                (0, 4),
+                (1, 5),
                 (2, 3),
                 (2, 4),
-                (3, 5),
-                (3, 7),
+                (2, 5),
+                (3, 6),
+                (3, 8),
                 (4, 6),
-                (4, 7),
+                (4, 8),
+                (5, 7),
                 (5, 8),
                 (6, 9),
-                (7, 8),
-                (7, 9),
+                (6, 10),
+                (7, 11),
+                (8, 9),
+                (8, 10),
+                (8, 11),
             ]
             .as_slice()
         );
         let costs = all_costs(rt.alloc(), &graph)?;
         assert_eq!(rt;
             costs.as_slice(),
-            [10, 10, 16, 1, 1, 6, 6, 16, 1, 1].as_slice()
+            [10, 10, 16, 1, 1, 1, 6, 6, 16, 1, 1, 1].as_slice()
         );
         let weights = all_weights(rt.alloc(), &graph)?;
         assert_eq!(rt;
             weights.as_slice(),
-            [28, 28, 34, 18, 18, 7, 7, 17, 1, 1].as_slice()
+            [28, 28, 34, 18, 18, 18, 7, 7, 17, 1, 1, 1].as_slice()
         );
         Ok(())
     }
@@ -379,8 +384,9 @@ mod tests {
         assert!(rt; tree.cells() == 11);
         assert!(rt; tree.leaves_below(1).1 <= tree.leaves_below(7).0);
         let spans = spans_of(&tree, 1, 7);
-        let graph = Graph::build(rt.alloc(), &tree, &spans, &[false; 8], true)?;
-        assert!(rt; graph.tasks() == 11);
+        let due = [true, false, false, false, false, false, false, false];
+        let graph = Graph::build(rt.alloc(), &tree, &spans, &due, true)?;
+        assert!(rt; graph.tasks() == 13);
         assert_eq!(rt; graph.kind(4), Kind::Drift);
         assert_eq!(rt; graph.cells_of(3), (5, None));
         assert_eq!(rt; graph.cells_of(4), (7, None));
@@ -390,7 +396,7 @@ mod tests {
         let waits = all_waits(rt.alloc(), &graph)?;
         assert_eq!(rt;
             waits.as_slice(),
-            [0, 0, 0, 0, 0, 4, 1, 5, 0, 0, 0].as_slice()
+            [0, 0, 0, 0, 0, 4, 1, 5, 2, 1, 0, 1, 2].as_slice()
         );
         Ok(())
     }

@@ -13,11 +13,11 @@ use std::marker::Model;
 
 /// The numbers of the spans above one leaf, rising.
 #[derive(Debug, Drop)]
-pub struct SpansAt {
+pub struct SpansAbove {
     numbers: Vec<u32>,
 }
 
-impl Model for SpansAt {
+impl Model for SpansAbove {
     ghost use Rattle.std.specs.Prelude.{List, ℕ};
 
     ghost Value = { List ℕ };
@@ -25,7 +25,7 @@ impl Model for SpansAt {
     ghost view = { λ s. s.numbers.items };
 }
 
-impl SpansAt {
+impl SpansAbove {
     /// The numbers.
     pub fn as_slice(&self) -> &[u32]
         ensures { result.now ≡ self.now }
@@ -48,18 +48,18 @@ pub struct Leaves {
     /// The leaves that drift, rising.
     pub drifting: Vec<u32>,
     /// The spans above each of them.
-    pub at_drifting: Vec<SpansAt>,
+    pub above_drifting: Vec<SpansAbove>,
     /// The leaves with a due member, rising.
     pub dues: Vec<u32>,
     /// The spans above each of them.
-    pub at_dues: Vec<SpansAt>,
+    pub above_dues: Vec<SpansAbove>,
     /// How many of the leaves before each leaf have a due member, and last how many of all.
     pub due_before: Vec<u32>,
 }
 
-/// Adds a number at those leaves that stand from the count at the first leaf up to the count at the second.
+/// Adds a number at the places from the count at the first leaf up to the count at the second.
 fn add_below(
-    spans_at: &mut [SpansAt],
+    above: &mut [SpansAbove],
     before: &[u32],
     below: (u32, u32),
     number: u32,
@@ -67,70 +67,70 @@ fn add_below(
     requires from_in { below.0 < length before.now }
     requires to_in { below.1 < length before.now }
     requires ordered { slice_index before.now below.0 ≤ slice_index before.now below.1 }
-    requires within { slice_index before.now below.1 ≤ length spans_at.old }
-    ensures { OnOk result (AddsWithin (slice_index before.now below.0) (slice_index before.now below.1) number spans_at.old spans_at.new) }
+    requires within { slice_index before.now below.1 ≤ length above.old }
+    ensures { OnOk result (AddsWithin (slice_index before.now below.0) (slice_index before.now below.1) number above.old above.new) }
 {
     let (from, to) = below;
-    for leaf in before[from as usize]..before[to as usize] {
-        spans_at[leaf as usize].push(number)?;
+    for place in before[from as usize]..before[to as usize] {
+        above[place as usize].push(number)?;
     }
     Ok(())
 }
 
 /// Adds a span's number at those leaves, told by the counts, that are below its cells.
 fn add_span(
-    spans_at: &mut [SpansAt],
+    above: &mut [SpansAbove],
     tree: &Tree,
     before: &[u32],
     span: Span,
     number: u32,
 ) -> Result<(), AllocError>
-    requires counts { (cells : List ℕ) × AreCountsOf tree.now cells before.now × (length spans_at.old ≡ length cells) }
+    requires counts { (cells : List ℕ) × AreCountsOf tree.now cells before.now × (length above.old ≡ length cells) }
     requires span { IsSpan tree.now span }
-    ensures { (cells : List ℕ) → AreCountsOf tree.now cells before.now → OnOk result (AddsSpan tree.now cells span number spans_at.old spans_at.new) }
+    ensures { (cells : List ℕ) → AreCountsOf tree.now cells before.now → OnOk result (AddsSpan tree.now cells span number above.old above.new) }
 {
-    add_below(spans_at, before, tree.leaves_below(span.first), number)?;
+    add_below(above, before, tree.leaves_below(span.first), number)?;
     match span.second {
-        Some(second) => add_below(spans_at, before, tree.leaves_below(second), number),
+        Some(second) => add_below(above, before, tree.leaves_below(second), number),
         None => Ok(()),
     }
 }
 
 /// So many leaves with no span.
-fn no_spans(alloc: Global, leaves: u32) -> Result<Vec<SpansAt>, AllocError>
+fn no_spans(alloc: Global, leaves: u32) -> Result<Vec<SpansAbove>, AllocError>
     ensures { IfOk result (λ v. v.items ≡ replicate leaves []) }
 {
-    let mut spans_at = Vec::with_capacity(alloc, leaves as usize)?;
+    let mut above = Vec::with_capacity(alloc, leaves as usize)?;
     for _leaf in 0..leaves {
-        spans_at.push(SpansAt {
+        above.push(SpansAbove {
             numbers: Vec::new(alloc),
         })?;
     }
-    Ok(spans_at)
+    Ok(above)
 }
 
 /// The spans above each of some leaves, of which as many stand before each leaf of the tree as the counts
 /// say.
-fn spans_at_leaves(
+fn spans_above_leaves(
     alloc: Global,
     tree: &Tree,
     spans: &[Span],
     before: &[u32],
-) -> Result<Vec<SpansAt>, AllocError>
+) -> Result<Vec<SpansAbove>, AllocError>
     requires counts { (cells : List ℕ) × AreCountsOf tree.now cells before.now }
     requires spans { All (IsSpan tree.now) spans.now }
     requires few { length spans.now < 2 ^ 30 }
     ensures { (cells : List ℕ) → AreCountsOf tree.now cells before.now → IfOk result (λ v. v.items ≡ map (spans_above tree.now spans.now) cells) }
 {
-    let mut spans_at = no_spans(alloc, before[tree.leaves() as usize])?;
+    let mut above = no_spans(alloc, before[tree.leaves() as usize])?;
     for (number, span) in spans.iter().enumerate() {
-        add_span(&mut spans_at, tree, before, *span, number as u32)?;
+        add_span(&mut above, tree, before, *span, number as u32)?;
     }
-    Ok(spans_at)
+    Ok(above)
 }
 
-/// How many leaves stand before each leaf, and last how many there are.
-fn leaves_before(alloc: Global, tree: &Tree) -> Result<Vec<u32>, AllocError>
+/// How many of all leaves stand before each leaf, which is its number, and last how many there are.
+fn counts_of_all(alloc: Global, tree: &Tree) -> Result<Vec<u32>, AllocError>
     requires { CanBeMade tree.now }
     ensures { IfOk result (λ v. AreCountsOf tree.now (leaf_cells tree.now) v.items) }
 {
@@ -138,12 +138,12 @@ fn leaves_before(alloc: Global, tree: &Tree) -> Result<Vec<u32>, AllocError>
 }
 
 /// The leaves with a span, rising.
-fn leaves_with_spans(alloc: Global, spans_at: &[SpansAt]) -> Result<Vec<u32>, AllocError>
-    requires few { length spans_at.now ≤ 360448 }
-    ensures { IfOk result (λ v. v.items ≡ filter (has_span spans_at.now) (numbers_from 0 (length spans_at.now))) }
+fn leaves_with_spans(alloc: Global, above: &[SpansAbove]) -> Result<Vec<u32>, AllocError>
+    requires few { length above.now ≤ 360448 }
+    ensures { IfOk result (λ v. v.items ≡ filter (has_span above.now) (numbers_from 0 (length above.now))) }
 {
     let mut leaves = Vec::new(alloc);
-    for (leaf, at) in spans_at.iter().enumerate() {
+    for (leaf, at) in above.iter().enumerate() {
         if !at.as_slice().is_empty() {
             leaves.push(leaf as u32)?;
         }
@@ -156,18 +156,18 @@ fn all_spanned(
     alloc: Global,
     tree: &Tree,
     spans: &[Span],
-) -> Result<(Vec<u32>, Vec<SpansAt>), AllocError>
+) -> Result<(Vec<u32>, Vec<SpansAbove>), AllocError>
     requires can { CanBeMade tree.now }
     requires spans { All (IsSpan tree.now) spans.now }
     requires few { length spans.now < 2 ^ 30 }
     ensures leaves { IfOk result (λ p. AreLeavesOf tree.now (spanned_leaves tree.now spans.now) p.0.items) }
     ensures at { IfOk result (λ p. p.1.items ≡ map (spans_above tree.now spans.now) (spanned_leaves tree.now spans.now)) }
 {
-    let before = leaves_before(alloc, tree)?;
-    let mut spans_at = spans_at_leaves(alloc, tree, spans, &before)?;
-    let leaves = leaves_with_spans(alloc, &spans_at)?;
-    spans_at.retain(|at| !at.as_slice().is_empty());
-    Ok((leaves, spans_at))
+    let before = counts_of_all(alloc, tree)?;
+    let mut above = spans_above_leaves(alloc, tree, spans, &before)?;
+    let leaves = leaves_with_spans(alloc, &above)?;
+    above.retain(|at| !at.as_slice().is_empty());
+    Ok((leaves, above))
 }
 
 /// The leaves with a due member, rising: those after which more have one.
@@ -197,22 +197,22 @@ impl Leaves {
         requires one_flag_each { length due.now ≡ length tree.now.points }
         requires spans { All (IsSpan tree.now) spans.now }
         requires few { length spans.now < 2 ^ 30 }
-        ensures leaves { IfOk result (λ l. AreLeavesFor tree.now spans.now due.now drift l.drifting.items l.at_drifting.items l.dues.items l.at_dues.items l.due_before.items) }
+        ensures leaves { IfOk result (λ l. AreLeavesFor tree.now spans.now due.now drift l.drifting.items l.above_drifting.items l.dues.items l.above_dues.items l.due_before.items) }
         ensures can { OnOk result (CanBeMade tree.now) }
     {
         let due_before = due_leaves(alloc, tree, due)?;
         let dues = leaves_due(alloc, &due_before)?;
-        let at_dues = spans_at_leaves(alloc, tree, spans, &due_before)?;
-        let (drifting, at_drifting) = if drift {
+        let above_dues = spans_above_leaves(alloc, tree, spans, &due_before)?;
+        let (drifting, above_drifting) = if drift {
             all_spanned(alloc, tree, spans)?
         } else {
             (Vec::new(alloc), Vec::new(alloc))
         };
         Ok(Leaves {
             drifting,
-            at_drifting,
+            above_drifting,
             dues,
-            at_dues,
+            above_dues,
             due_before,
         })
     }

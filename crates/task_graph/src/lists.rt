@@ -8,7 +8,7 @@ ghost use Rattle.task_graph.specs.Joined.{counted_between, counted_from, dues_be
 ghost use Rattle.task_graph.specs.Parts.{AddsLists, AreEdgeLists, AreLeavesFor};
 ghost use Rattle.task_weight.specs.Edges.{AreStarts};
 
-use crate::leaves::{Leaves, SpansAt};
+use crate::leaves::{Leaves, SpansAbove};
 use crate::numbers::Numbers;
 use cell_tree::{Span, Tree};
 use std::alloc::{AllocError, Global};
@@ -27,7 +27,7 @@ fn push_range(ends: &mut Vec<u32>, from: u32, to: u32) -> Result<(), AllocError>
 /// Adds the tasks on some spans, which number from the first on.
 fn push_spans(ends: &mut Vec<u32>, spans: &[u32], first: u32) -> Result<(), AllocError>
     requires { All (λ span. first + span < 2 ^ 32) spans.now }
-    ensures { OnOk result (ends.new.items ≡ ends.old.items ++ map (λ span. first + span) spans.now) }
+    ensures { OnOk result (ends.new.items ≡ ends.old.items ++ counted_from first spans.now) }
 {
     for span in spans {
         ends.push(first + *span)?;
@@ -112,15 +112,15 @@ impl EdgeLists {
     }
 
     /// Adds a list for each of some leaves: the tasks on the spans at it, which number from the first on.
-    fn add_leaves(&mut self, spans_at: &[SpansAt], first: u32) -> Result<(), AllocError>
+    fn add_leaves(&mut self, above: &[SpansAbove], first: u32) -> Result<(), AllocError>
         requires starts { AreStarts self.old.starts.items self.old.ends.items }
-        requires few { length self.old.starts.items + length spans_at.now ≤ 2 ^ 32 }
-        requires fits { All (λ spans. All (λ span. first + span < 2 ^ 32) spans) spans_at.now }
-        ensures count { OnOk result (length self.new.starts.items ≡ length self.old.starts.items + length spans_at.now) }
+        requires few { length self.old.starts.items + length above.now ≤ 2 ^ 32 }
+        requires fits { All (λ spans. All (λ span. first + span < 2 ^ 32) spans) above.now }
+        ensures count { OnOk result (length self.new.starts.items ≡ length self.old.starts.items + length above.now) }
         ensures lists { OnOk result (AddsLists self.old.starts.items self.old.ends.items self.new.starts.items self.new.ends.items
-            (map (counted_from first) spans_at.now)) }
+            (map (counted_from first) above.now)) }
     {
-        for spans in spans_at {
+        for spans in above {
             push_spans(&mut self.ends, spans.as_slice(), first)?;
             self.end_list()?;
         }
@@ -178,18 +178,18 @@ pub fn edge_lists(
     requires can { CanBeMade tree.now }
     requires spans { All (IsSpan tree.now) spans.now }
     requires few { length spans.now < 2 ^ 30 }
-    requires leaves { (due : List Bool) × (drift : Bool) × AreLeavesFor tree.now spans.now due drift leaves.now.drifting.items leaves.now.at_drifting.items leaves.now.dues.items leaves.now.at_dues.items leaves.now.due_before.items }
+    requires leaves { (due : List Bool) × (drift : Bool) × AreLeavesFor tree.now spans.now due drift leaves.now.drifting.items leaves.now.above_drifting.items leaves.now.dues.items leaves.now.above_dues.items leaves.now.due_before.items }
     requires densities { numbers.densities ≡ length leaves.now.drifting.items }
     requires ghosts { numbers.ghosts ≡ length leaves.now.drifting.items + length spans.now }
     requires forces { numbers.forces ≡ length leaves.now.drifting.items + length spans.now + length leaves.now.dues.items }
     requires kicks { numbers.kicks ≡ length leaves.now.drifting.items + length spans.now + length leaves.now.dues.items + length spans.now }
-    ensures { (due : List Bool) (drift : Bool) → AreLeavesFor tree.now spans.now due drift leaves.now.drifting.items leaves.now.at_drifting.items leaves.now.dues.items leaves.now.at_dues.items leaves.now.due_before.items
+    ensures { (due : List Bool) (drift : Bool) → AreLeavesFor tree.now spans.now due drift leaves.now.drifting.items leaves.now.above_drifting.items leaves.now.dues.items leaves.now.above_dues.items leaves.now.due_before.items
         → IfOk result (AreEdgeLists tree.now spans.now due drift) }
 {
     let mut lists = EdgeLists::new(alloc)?;
-    lists.add_leaves(&leaves.at_drifting, numbers.densities)?;
+    lists.add_leaves(&leaves.above_drifting, numbers.densities)?;
     lists.add_spans(tree, spans, &leaves.due_before, numbers.ghosts)?;
-    lists.add_leaves(&leaves.at_dues, numbers.forces)?;
+    lists.add_leaves(&leaves.above_dues, numbers.forces)?;
     lists.add_spans(tree, spans, &leaves.due_before, numbers.kicks)?;
     lists.add_empty(leaves.dues.len())?;
     Ok(Edges::new(lists.starts, lists.ends))

@@ -3,8 +3,7 @@ ghost use Rattle.std.specs.Prelude.{◌≡◌, ◌==◌, ◌+◌, ◌<◌, ◌^�
 ghost use Rattle.cell_tree.specs.Tree.{numbers_from};
 ghost use Rattle.std.specs.List.Sorted.{IsStrictlyIncreasing};
 ghost use Rattle.task_graph.specs.Graph.{edges_into};
-ghost use Rattle.task_weight.specs.Edges.{AreForward};
-ghost use Rattle.task_weight.specs.Paths.{after_of};
+ghost use Rattle.task_weight.specs.Edges.{AreForward, AreRising};
 
 use std::alloc::{AllocError, Global};
 use task_weight::Edges;
@@ -12,7 +11,7 @@ use task_weight::Edges;
 /// The number of edges into each task.
 pub fn waits_of(alloc: Global, edges: &Edges) -> Result<Vec<u32>, AllocError>
     requires forward { AreForward edges.now }
-    requires rising { (task : ℕ) → task < length edges.now → IsStrictlyIncreasing (after_of edges.now task) }
+    requires rising { AreRising edges.now }
     ensures { IfOk result (λ v. v.items ≡ map (edges_into edges.now) (numbers_from 0 (length edges.now))) }
 {
     let mut waits = vec![in alloc; 0u32; edges.tasks() as usize]?;

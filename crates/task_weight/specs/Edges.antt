@@ -1,6 +1,7 @@
 -- Edges between tasks: for each task those that wait for it.
 use Rattle.std.specs.Prelude.{◌≡◌, ℕ, ◌+◌, ◌-◌, ◌<◌, ◌≤◌, ◌^◌, List, map, length, slice_index, Contains}
 use Rattle.std.specs.List.{range_with_len, slice_range}
+use Rattle.std.specs.List.Sorted.{IsStrictlyIncreasing}
 use Rattle.task_weight.specs.Paths.{after_of}
 
 -- the ends of a task stand from its start to the next one's
@@ -22,3 +23,7 @@ pub record AreStarts (starts ends : List ℕ) : Type 0 where
 -- each edge goes to a greater number, below the count of tasks
 abbrev pub AreForward : List (List ℕ) → Type 0
 AreForward edges = (task after : ℕ) → task < length edges → Contains (after_of edges task) after → (task < after) × (after < length edges)
+
+-- the tasks that wait for one stand in rising order, each once
+abbrev pub AreRising : List (List ℕ) → Type 0
+AreRising edges = (task : ℕ) → task < length edges → IsStrictlyIncreasing (after_of edges task)

@@ -2,18 +2,18 @@ use Rattle.std.proofs.Common.{◌≡◌, ◌-◌, ◌++◌, length, ap, ◌∙�
 use Rattle.std.specs.List.{All}
 use Rattle.cell_tree.specs.Due.{AreDueBefore}
 use Rattle.cell_tree.specs.Spans.{IsSpan}
+use Rattle.cell_tree.proofs.Orders.{cells_some}
 use Rattle.pair_cover.specs.Covering.{CoversMoved}
 use Rattle.pair_cover.specs.Looks.{spans_of, self_spans, most_looks}
 use Rattle.pair_cover.specs.Steps.{Adds, level_at}
 use Rattle.pair_cover.proofs.Covering.{spans_cover}
 use Rattle.pair_cover.proofs.FewSpans.{spans_few}
-use Rattle.pair_cover.proofs.LookSteps.{first_cell}
 use Rattle.pair_cover.proofs.SpanCells.{spans_cells}
 use Rattle.pair_cover.proofs.spans.cover.Goals as goal
 use Rattle.pair_cover.proofs.spans.cover.Goals.{After-drop-before-2}
 
 pub look_self-requires-clause-cell : goal.look_self-requires-clause-cell
-look_self-requires-clause-cell c = first_cell c.args.tree.now
+look_self-requires-clause-cell c = cells_some c.args.tree.now
 
 spans_are : (c : After-drop-before-2) → c.look_self.new.spans.items ≡ spans_of c.args.tree.now c.args.due.now c.args.limits
 spans_are c =

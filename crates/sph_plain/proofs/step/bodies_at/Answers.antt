@@ -1,5 +1,5 @@
 use Rattle.std.proofs.Common.{arith}
-use Rattle.sph_plain.proofs.Passes.{no_particle}
+use Rattle.sph_num.proofs.PastEnd.{no_particle}
 use Rattle.sph_plain.proofs.Soundness.{sound_of}
 use Rattle.sph_plain.proofs.step.bodies_at.Goals as goal
 

@@ -1,9 +1,10 @@
 use Rattle.std.proofs.Common.{refl, ap, ◌∙◌, arith, length}
 use Rattle.std.proofs.lemmas.List.{length-map}
+use Rattle.sph_num.proofs.PastEnd.{no_particle}
 use Rattle.sph_plain.specs.Bodies.{body_at, with_density}
 use Rattle.sph_plain.specs.Run.{before}
 use Rattle.sph_plain.proofs.Mapped.{read_next}
-use Rattle.sph_plain.proofs.Passes.{no_particle, no_body, inside_map, density_given, density_left}
+use Rattle.sph_plain.proofs.Passes.{no_body, inside_map, density_given, density_left}
 use Rattle.sph_plain.proofs.Soundness.{sound, count-le, All-body_at}
 use Rattle.sph_plain.proofs.step.find_densities.Goals as goal
 use Rattle.sph_plain.proofs.step.find_densities.Goals.{then-due, else-due}

@@ -1,7 +1,8 @@
 use Rattle.std.proofs.Common.{◌∙◌, arith, true}
+use Rattle.sph_num.proofs.PastEnd.{no_particle}
 use Rattle.sph_plain.specs.Bodies.{with_density}
 use Rattle.sph_plain.specs.Run.{before}
-use Rattle.sph_plain.proofs.Passes.{no_particle, inside_map, read_map, with_density_bin, due_with_density, rho_of_due, ghost_given, ghost_left}
+use Rattle.sph_plain.proofs.Passes.{inside_map, read_map, with_density_bin, due_with_density, rho_of_due, ghost_given, ghost_left}
 use Rattle.sph_plain.proofs.Soundness.{sound}
 use Rattle.sph_plain.proofs.step.find_ghosts.Goals as goal
 use Rattle.sph_plain.proofs.step.find_ghosts.Goals.{then-due, else-due}

@@ -2,12 +2,13 @@ use Rattle.std.proofs.Common.{◌≤◌, ap, length, map, get_or, ◌∙◌, sym
 use Rattle.std.proofs.lemmas.List.{length-map}
 use Rattle.sph_num.specs.declared.particle.Particle.{Particle}
 use Rattle.sph_num.specs.Motion.{IsMomentum}
+use Rattle.sph_num.proofs.PastEnd.{no_particle}
 use Rattle.sph_bins.specs.Kick.{density_at, place_at}
 use Rattle.sph_plain.specs.declared.body.Body.{Body}
 use Rattle.sph_plain.specs.Bodies.{ghost_body, next_particle, with_density}
 use Rattle.sph_plain.specs.Run.{before, after}
 use Rattle.sph_plain.proofs.Mapped.{written_all}
-use Rattle.sph_plain.proofs.Passes.{no_particle, no_body, inside_map, read_dense, dense_due, with_density_bin, body_with_ghost, force_is, place_with_rho, kick_given, kick_left, all_kicked}
+use Rattle.sph_plain.proofs.Passes.{no_body, inside_map, read_dense, dense_due, with_density_bin, body_with_ghost, force_is, place_with_rho, kick_given, kick_left, all_kicked}
 use Rattle.sph_plain.proofs.Soundness.{sound, count-le, All-ghost_body}
 use Rattle.sph_plain.proofs.step.kick_due.Goals as goal
 use Rattle.sph_plain.proofs.step.kick_due.Goals.{then-due, else-due}

@@ -2,5 +2,5 @@ use Rattle.std.proofs.Common.{slice_index}
 use Rattle.task_graph.specs.LeafLists.{AddsWithin}
 use Rattle.task_graph.proofs.leaves.add_below.Given as goal
 
-abbrev pub invariant-loop-leaf : goal.invariant-loop-leaf
-invariant-loop-leaf l = AddsWithin (slice_index l.before l.from) l.leaf l.number l.fn.spans_at l.spans_at
+abbrev pub invariant-loop-place : goal.invariant-loop-place
+invariant-loop-place l = AddsWithin (slice_index l.before l.from) l.place l.number l.fn.above l.above

@@ -17,15 +17,15 @@ add_below-requires-in-Some-clause-ordered c = (c.requires.counts.1.in_cell _ _ _
 pub add_below-requires-in-Some-clause-within : goal.add_below-requires-in-Some-clause-within
 add_below-requires-in-Some-clause-within c =
     let within = (c.requires.counts.1.in_cell _ _ _ c.leaves_below-in-Some.ensures).within in
-    omega (arith, c.requires.counts.2, c.add_below.auto.spans_at)
+    omega (arith, c.requires.counts.2, c.add_below.auto.above)
 
 pub returns-in-Some : goal.returns-in-Some
 returns-in-Some c = λ cells are.
     on_ok_weaker c.add_below-in-Some.result
-    (AddsSpan-two c.args.tree.now cells c.args.span c.in-Some.second _ _ _ _ c.args.number c.args.spans_at.now c.add_below.new.spans_at c.add_below-in-Some.new.spans_at
+    (AddsSpan-two c.args.tree.now cells c.args.span c.in-Some.second _ _ _ _ c.args.number c.args.above.now c.add_below.new.above c.add_below-in-Some.new.above
     c.requires.span c.in-Some.is (are.in_cell _ _ _ c.leaves_below.ensures) c.in_ok-add_below.ensures (are.in_cell _ _ _ c.leaves_below-in-Some.ensures))
     c.add_below-in-Some.ensures
 
 pub returns-in-None : goal.returns-in-None
 returns-in-None c = λ cells are.
-    AddsSpan-one c.args.tree.now cells c.args.span _ _ c.args.number c.args.spans_at.now c.add_below.new.spans_at c.in-None.is (are.in_cell _ _ _ c.leaves_below.ensures) c.in_ok-add_below.ensures
+    AddsSpan-one c.args.tree.now cells c.args.span _ _ c.args.number c.args.above.now c.add_below.new.above c.in-None.is (are.in_cell _ _ _ c.leaves_below.ensures) c.in_ok-add_below.ensures

@@ -12,7 +12,7 @@ add_leaves-requires-clause-fits c =
     let few = lists_few _ _ _ _ _ _ _ _ _ c.requires.can are in
     let a = few.few_drift in
     let b = few.few_due in
-    rw c.deref.ensures.value (span_numbers_fit c.args.tree.now c.args.spans.now _ _ are.at_drifting_are c.args.numbers.densities (omega arith))
+    rw c.deref.ensures.value (span_numbers_fit c.args.tree.now c.args.spans.now _ _ are.above_drifting_are c.args.numbers.densities (omega arith))
 
 pub add_spans-requires-clause-few : goal.add_spans-requires-clause-few
 add_spans-requires-clause-few c =
@@ -54,7 +54,7 @@ add_leaves-requires-2-clause-fits c =
     let few = lists_few _ _ _ _ _ _ _ _ _ c.requires.can are in
     let a = few.few_drift in
     let b = few.few_due in
-    rw c.deref-3.ensures.value (span_numbers_fit c.args.tree.now c.args.spans.now _ _ are.at_dues_are c.args.numbers.forces (omega arith))
+    rw c.deref-3.ensures.value (span_numbers_fit c.args.tree.now c.args.spans.now _ _ are.above_dues_are c.args.numbers.forces (omega arith))
 
 pub add_spans-requires-2-clause-few : goal.add_spans-requires-2-clause-few
 add_spans-requires-2-clause-few c =
@@ -100,5 +100,5 @@ returns c = λ due drift are.
     let adds5 = c.in_ok-add_empty.ensures in
     let is = edges_of-parts _ _ _ _ _ _ _ _ _ _ _ _ _ _ _ _ _ c.in_ok-lists.ensures.starts c.in_ok-lists.ensures.ends adds1 adds2 adds3 adds4 adds5 in
     subst (AreEdgeLists made c.args.spans.now due drift) (sym (c.new-2.ensures ∙ is))
-    (are_edge_lists made c.args.spans.now due drift c.args.leaves.now.drifting.items c.args.leaves.now.at_drifting.items c.args.leaves.now.dues.items c.args.leaves.now.at_dues.items c.args.leaves.now.due_before.items
+    (are_edge_lists made c.args.spans.now due drift c.args.leaves.now.drifting.items c.args.leaves.now.above_drifting.items c.args.leaves.now.dues.items c.args.leaves.now.above_dues.items c.args.leaves.now.due_before.items
     c.args.numbers.densities c.args.numbers.ghosts c.args.numbers.forces c.args.numbers.kicks c.len.result are c.requires.densities c.requires.ghosts c.requires.forces c.requires.kicks (omega (arith, c.len.ensures)))

@@ -1,8 +1,9 @@
-use Rattle.std.proofs.Common.{◌<◌, length, refl, ap, ◌∙◌, arith}
+use Rattle.std.proofs.Common.{◌≡◌, ◌+◌, length, refl, ap, ◌∙◌, arith}
 use Rattle.std.proofs.lemmas.List.{get_or_default, take_all}
 use Rattle.task_weight.proofs.GreatestPaths.{after_below}
 use Rattle.task_graph.specs.Graph.{edges_into}
-use Rattle.task_graph.proofs.EdgeCounts.{edges_into-le, by_numbers}
+use Rattle.task_graph.proofs.EdgeCounts.{edges_into-le}
+use Rattle.task_graph.proofs.NumberedLists.{by_numbers}
 use Rattle.task_graph.proofs.waits.waits_of.Goals as goal
 
 pub count-requires-clause-within : goal.count-requires-clause-within
@@ -23,6 +24,6 @@ pub returns : goal.returns
 returns c =
     let edges = c.args.edges.now in
     let waits = c.loop-task.waits.items in
-    by_numbers (edges_into edges) waits (length edges) c.loop-task.invariant.one_each (λ k d below.
-    let within : k < length waits = omega (arith, c.loop-task.invariant.one_each) in
-    get_or_default waits k d 0 within ∙ c.loop-task.invariant.counted k below ∙ ap (λ lists. edges_into lists k) (take_all c.loop-task.task edges (omega arith)))
+    by_numbers (edges_into edges) 0 waits 0 (length edges) c.loop-task.invariant.one_each (λ k below.
+    let here : k ≡ 0 + k = omega arith in
+    c.loop-task.invariant.counted k below ∙ ap (λ lists. edges_into lists k) (take_all c.loop-task.task edges (omega arith)) ∙ ap (edges_into edges) here)

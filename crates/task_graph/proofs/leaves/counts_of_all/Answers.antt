@@ -3,7 +3,7 @@ use Rattle.std.proofs.lemmas.Iterator.{items_from_collect, YieldsList-from_range
 use Rattle.std.proofs.lemmas.Result.{IfOk-weaker}
 use Rattle.cell_tree.specs.Tree.{leaf_count}
 use Rattle.task_graph.proofs.CountedLeaves.{AreCountsOf-all}
-use Rattle.task_graph.proofs.leaves.leaves_before.Goals as goal
+use Rattle.task_graph.proofs.leaves.counts_of_all.Goals as goal
 
 pub returns : goal.returns
 returns c =

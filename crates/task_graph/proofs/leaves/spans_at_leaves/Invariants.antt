@@ -1,7 +1,0 @@
-use Rattle.std.proofs.Common.{ℕ, List}
-use Rattle.task_graph.specs.LeafLists.{AreCountsOf}
-use Rattle.task_graph.proofs.SpanLists.{AreListsTo}
-use Rattle.task_graph.proofs.leaves.spans_at_leaves.Given as goal
-
-abbrev pub invariant-loop-number : goal.invariant-loop-number
-invariant-loop-number l = (cells : List ℕ) → AreCountsOf l.tree cells l.before → AreListsTo l.tree cells l.spans l.number l.spans_at.items
