@@ -11,7 +11,7 @@ use Rattle.cell_tree.specs.Tree.{Made, cell_at, cells_of, is_leaf}
 use Rattle.cell_tree.proofs.Members.{root, Contains-numbers}
 use Rattle.cell_tree.proofs.Orders.{cells_some}
 use Rattle.cell_tree.proofs.Shape.{cells_under-first}
-use Rattle.pair_cover.specs.declared.spans.Limits.{Limits}
+use Rattle.pair_cover.specs.declared.looks.Limits.{Limits}
 use Rattle.pair_cover.specs.Covering.{group_of, AreMoved, AreInReach, CoversMoved}
 use Rattle.pair_cover.specs.Looks.{children_of, drops, stops, splits_first, pair_spans, self_spans, twos, most_looks, spans_of, reach_of_two, gap2_of}
 use Rattle.pair_cover.proofs.Distances.{not_in_reach, not_in_reach_turned}

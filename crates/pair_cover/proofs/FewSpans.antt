@@ -11,7 +11,7 @@ use Rattle.cell_tree.specs.Tree.{Made, Cell, cells_of}
 use Rattle.cell_tree.proofs.Members.{root, sound_at, length-numbers_from}
 use Rattle.cell_tree.proofs.Orders.{cells_some}
 use Rattle.cell_tree.proofs.Shape.{cells_under-first}
-use Rattle.pair_cover.specs.declared.spans.Limits.{Limits}
+use Rattle.pair_cover.specs.declared.looks.Limits.{Limits}
 use Rattle.pair_cover.specs.Looks.{pair_spans, self_spans, spans_of, children_of, twos, most_looks}
 use Rattle.pair_cover.proofs.ChildLists.{children_count}
 use Rattle.pair_cover.proofs.Families.{IsParent-from_children}

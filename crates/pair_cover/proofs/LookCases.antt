@@ -4,7 +4,7 @@ use Rattle.std.proofs.lemmas.Bool.{true≢false, false≢true, or_parts}
 use Rattle.cell_tree.specs.Due.{has_due}
 use Rattle.cell_tree.specs.Spans.{is_leaf_cell, count_of}
 use Rattle.cell_tree.specs.Tree.{Made, cell_at, is_leaf}
-use Rattle.pair_cover.specs.declared.spans.Limits.{Limits}
+use Rattle.pair_cover.specs.declared.looks.Limits.{Limits}
 use Rattle.pair_cover.specs.Looks.{children_of, drops, stops, splits_first, span_of, pair_spans, self_spans, twos, most_looks}
 
 -- from which of two cells is split, that this one is no leaf

@@ -10,7 +10,7 @@ use Rattle.cell_tree.specs.Due.{has_due, AreDueBefore}
 use Rattle.cell_tree.specs.Laws.{CanBeMade}
 use Rattle.cell_tree.specs.Tree.{Made, cells_of, cell_at}
 use Rattle.cell_tree.proofs.Members.{sound_at}
-use Rattle.pair_cover.specs.declared.spans.Limits.{Limits}
+use Rattle.pair_cover.specs.declared.looks.Limits.{Limits}
 use Rattle.pair_cover.specs.Looks.{reach_of_two, gap2_of, drops, stops, splits_first, span_of, children_of, pair_spans, self_spans, twos, most_looks}
 use Rattle.pair_cover.specs.Steps.{Adds, level_at}
 use Rattle.pair_cover.proofs.LookCases.{ends, pairs_none, pairs_dropped, pairs_stopped, pairs_first, pairs_second, selves_none, selves_dropped, selves_stopped, selves_split}

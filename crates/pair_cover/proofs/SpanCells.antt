@@ -11,7 +11,7 @@ use Rattle.cell_tree.proofs.Cubes.{CubeContains-trans, CubeContains-turned}
 use Rattle.cell_tree.proofs.Family.{run_inside, run_outside}
 use Rattle.cell_tree.proofs.Orders.{cells_some}
 use Rattle.cell_tree.proofs.Shape.{Holds}
-use Rattle.pair_cover.specs.declared.spans.Limits.{Limits}
+use Rattle.pair_cover.specs.declared.looks.Limits.{Limits}
 use Rattle.pair_cover.specs.Looks.{span_of, pair_spans, self_spans, spans_of, children_of, twos, most_looks}
 use Rattle.pair_cover.proofs.ChildLists.{children_rise}
 use Rattle.pair_cover.proofs.Families.{IsParent-from_children}

@@ -8,7 +8,7 @@ use Rattle.cell_tree.specs.declared.tree.Span.{Span}
 use Rattle.cell_tree.specs.Due.{has_due}
 use Rattle.cell_tree.specs.Spans.{count_of, is_leaf_cell}
 use Rattle.cell_tree.specs.Tree.{Made, cell_at, cells_of, numbers_from, reach_of}
-use Rattle.pair_cover.specs.declared.spans.Limits.{Limits}
+use Rattle.pair_cover.specs.declared.looks.Limits.{Limits}
 
 -- the one cube is a half of the other's side and lies in it
 abbrev pub is_octant_of : Cube → Cube → Bool

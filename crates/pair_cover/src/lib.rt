@@ -1,6 +1,8 @@
 //! The cover: which cells, alone and in pairs, have tasks, so that each pair of particles in reach meets once.
 #![tactic(auto)]
 
+mod looks;
 mod spans;
 
-pub use spans::{Limits, cover};
+pub use looks::Limits;
+pub use spans::cover;

@@ -1,258 +1,125 @@
 //! The spans of a tree, found by looks at one cell and at two, from the whole box down.
-ghost use Rattle.std.specs.Prelude.{◌≡◌, ℕ, ◌*◌, ◌+◌, ◌-◌, ◌/◌, ◌<◌, ◌≤◌, ◌∷◌, ◌||◌, Bool, List, nat_le, length, map, flat_map, All, IfOk, OnOk, vec_len};
-ghost use Rattle.cell_tree.specs.declared.tree.Span.{Span};
-ghost use Rattle.cell_tree.specs.Due.{AreDueBefore};
-ghost use Rattle.cell_tree.specs.Laws.{CanBeMade};
-ghost use Rattle.cell_tree.specs.Spans.{IsSpan, is_leaf_cell, count_of};
-ghost use Rattle.cell_tree.specs.Tree.{cells_of, leaf_count};
+ghost use Rattle.std.specs.Prelude.{◌≡◌, ◌*◌, ◌+◌, ◌-◌, ◌<◌, ◌≤◌, length, flat_map, All, IfOk, OnOk, vec_len};
+ghost use Rattle.cell_tree.specs.Spans.{IsSpan};
+ghost use Rattle.cell_tree.specs.Tree.{cells_of};
 ghost use Rattle.pair_cover.specs.Covering.{CoversMoved};
-ghost use Rattle.pair_cover.specs.Looks.{spans_of, drops, stops, splits_first, pair_spans, self_spans, children_of, twos, most_looks};
+ghost use Rattle.pair_cover.specs.Looks.{spans_of, pair_spans, self_spans, children_of, twos, most_looks};
 ghost use Rattle.pair_cover.specs.Steps.{Adds, level_at};
 
-use cell_geom::gap2;
-use cell_tree::{Span, Tree, due_leaves, has_due};
+use crate::looks::{Limits, Look};
+use cell_tree::{Span, Tree, due_leaves};
 use std::alloc::{AllocError, Global};
 
-/// When a look goes no deeper.
-#[derive(Clone, Copy, Debug, PartialEq, Eq)]
-pub struct Limits {
-    /// Cells of no more pairs than this are not split.
-    pub pairs: u32,
-    /// How far a point may move on an axis after the tree was made, in length units.
-    pub slack: u32,
-}
+impl Look<'_> {
+    /// Looks at two cells.
+    #[cycle(pair)]
+    fn pair(&self, a: u32, b: u32, spans: &mut Vec<Span>) -> Result<(), AllocError>
+        requires a { a < length (cells_of self.now.tree.now) }
+        requires b { b < length (cells_of self.now.tree.now) }
+        ensures { let made = self.now.tree.now in
+            OnOk result (Adds made self.now.before.now (21 - (level_at made a + level_at made b))
+            (λ due looks. pair_spans made due self.now.limits looks a b) spans.old.items spans.new.items) }
+    {
+        if self.drops(a, b) {
+            return Ok(());
+        }
+        if self.stops(a, b) {
+            spans.push(Span {
+                first: a,
+                second: Some(b),
+            })?;
+            return Ok(());
+        }
+        if self.splits_first(a, b) {
+            self.below_first(a, b, spans)
+        } else {
+            self.below_second(a, b, spans)
+        }
+    }
 
-/// Whether the cell is a leaf.
-fn is_leaf(tree: &Tree, cell: u32) -> bool
-    requires { cell < length (cells_of tree.now) }
-    ensures { result ≡ is_leaf_cell tree.now cell }
-{
-    tree.leaf_of(cell).is_some()
-}
+    /// Looks at each child of the first cell and the second cell.
+    #[cycle(pair)]
+    fn below_first(&self, a: u32, b: u32, spans: &mut Vec<Span>) -> Result<(), AllocError>
+        requires a { a < length (cells_of self.now.tree.now) }
+        requires b { b < length (cells_of self.now.tree.now) }
+        ensures { let made = self.now.tree.now in
+            OnOk result (Adds made self.now.before.now (20 - (level_at made a + level_at made b))
+            (λ due looks. flat_map (λ child. pair_spans made due self.now.limits looks child b) (children_of made a))
+            spans.old.items spans.new.items) }
+    {
+        for child in self.tree.children(a) {
+            self.pair(*child, b, spans)?;
+        }
+        Ok(())
+    }
 
-/// Whether two cells have no more pairs than the limit.
-fn few_pairs(tree: &Tree, limits: Limits, a: u32, b: u32) -> bool
-    requires a { a < length (cells_of tree.now) }
-    requires b { b < length (cells_of tree.now) }
-    ensures { result ≡ nat_le (count_of tree.now a * count_of tree.now b) limits.pairs }
-{
-    u64::from(tree.count(a)) * u64::from(tree.count(b)) <= u64::from(limits.pairs)
-}
+    /// Looks at the first cell and each child of the second cell.
+    #[cycle(pair)]
+    fn below_second(&self, a: u32, b: u32, spans: &mut Vec<Span>) -> Result<(), AllocError>
+        requires a { a < length (cells_of self.now.tree.now) }
+        requires b { b < length (cells_of self.now.tree.now) }
+        ensures { let made = self.now.tree.now in
+            OnOk result (Adds made self.now.before.now (20 - (level_at made a + level_at made b))
+            (λ due looks. flat_map (λ child. pair_spans made due self.now.limits looks a child) (children_of made b))
+            spans.old.items spans.new.items) }
+    {
+        for child in self.tree.children(b) {
+            self.pair(a, *child, spans)?;
+        }
+        Ok(())
+    }
 
-/// Whether a look at two cells gives their span.
-fn stops(tree: &Tree, limits: Limits, a: u32, b: u32) -> bool
-    requires a { a < length (cells_of tree.now) }
-    requires b { b < length (cells_of tree.now) }
-    ensures { result ≡ stops tree.now limits a b }
-{
-    is_leaf(tree, a) && is_leaf(tree, b) || few_pairs(tree, limits, a, b)
-}
+    /// Looks at a cell and each of others.
+    fn with_each(&self, a: u32, others: &[u32], spans: &mut Vec<Span>) -> Result<(), AllocError>
+        requires a { a < length (cells_of self.now.tree.now) }
+        requires others { All (λ b. b < length (cells_of self.now.tree.now)) others.now }
+        ensures { let made = self.now.tree.now in
+            OnOk result (Adds made self.now.before.now 0
+            (λ due looks. flat_map (λ b. pair_spans made due self.now.limits most_looks a b) others.now)
+            spans.old.items spans.new.items) }
+    {
+        for b in others {
+            self.pair(a, *b, spans)?;
+        }
+        Ok(())
+    }
 
-/// Whether a look at one cell with a due member gives its span.
-fn stops_alone(tree: &Tree, limits: Limits, cell: u32) -> bool
-    requires { cell < length (cells_of tree.now) }
-    ensures { result ≡ (is_leaf_cell tree.now cell
-        || nat_le (count_of tree.now cell * count_of tree.now cell) limits.pairs) }
-{
-    is_leaf(tree, cell) || few_pairs(tree, limits, cell, cell)
-}
+    /// Looks at each two of some cells.
+    fn each_two(&self, cells: &[u32], spans: &mut Vec<Span>) -> Result<(), AllocError>
+        requires { All (λ cell. cell < length (cells_of self.now.tree.now)) cells.now }
+        ensures { let made = self.now.tree.now in
+            OnOk result (Adds made self.now.before.now 0
+            (λ due looks. flat_map (λ two. pair_spans made due self.now.limits most_looks two.0 two.1) (twos cells.now))
+            spans.old.items spans.new.items) }
+    {
+        for (i, cell) in cells.iter().enumerate() {
+            self.with_each(*cell, &cells[i + 1..], spans)?;
+        }
+        Ok(())
+    }
 
-/// Whether no member of the two cells is due, or no two of them can come into reach.
-fn drops(tree: &Tree, before: &[u32], limits: Limits, a: u32, b: u32) -> bool
-    requires can { CanBeMade tree.now }
-    requires long { length before.now ≡ leaf_count tree.now + 1 }
-    requires slack { limits.slack ≤ 65535 }
-    requires a { a < length (cells_of tree.now) }
-    requires b { b < length (cells_of tree.now) }
-    ensures { (due : List Bool) → AreDueBefore tree.now due before.now → result ≡ drops tree.now due limits a b }
-{
-    if !has_due(tree, before, a) && !has_due(tree, before, b) {
-        return true;
+    /// Looks at one cell.
+    fn alone(&self, cell: u32, spans: &mut Vec<Span>) -> Result<(), AllocError>
+        requires { cell < length (cells_of self.now.tree.now) }
+        ensures { let made = self.now.tree.now in
+            OnOk result (Adds made self.now.before.now (11 - level_at made cell)
+            (λ due looks. self_spans made due self.now.limits looks cell) spans.old.items spans.new.items) }
+    {
+        if !self.has_due(cell) {
+            return Ok(());
+        }
+        if self.stops_alone(cell) {
+            spans.push(Span {
+                first: cell,
+                second: None,
+            })?;
+            return Ok(());
+        }
+        for child in self.tree.children(cell) {
+            self.alone(*child, spans)?;
+        }
+        self.each_two(self.tree.children(cell), spans)
     }
-    let reach = u64::from(tree.reach(a).max(tree.reach(b)));
-    reach * reach <= gap2(tree.cube(a), tree.cube(b), limits.slack)
-}
-
-/// Of two cells that are not both leaves, whether the first one is split.
-fn splits_first(tree: &Tree, a: u32, b: u32) -> bool
-    requires a { a < length (cells_of tree.now) }
-    requires b { b < length (cells_of tree.now) }
-    ensures { result ≡ splits_first tree.now a b }
-{
-    if is_leaf(tree, a) {
-        return false;
-    }
-    if is_leaf(tree, b) {
-        return true;
-    }
-    let (a_level, b_level) = (tree.cube(a).level, tree.cube(b).level);
-    if a_level == b_level {
-        tree.count(b) <= tree.count(a)
-    } else {
-        a_level < b_level
-    }
-}
-
-/// Looks at two cells.
-#[cycle(look_pair)]
-fn look_pair(
-    tree: &Tree,
-    before: &[u32],
-    limits: Limits,
-    a: u32,
-    b: u32,
-    spans: &mut Vec<Span>,
-) -> Result<(), AllocError>
-    requires can { CanBeMade tree.now }
-    requires long { length before.now ≡ leaf_count tree.now + 1 }
-    requires slack { limits.slack ≤ 65535 }
-    requires a { a < length (cells_of tree.now) }
-    requires b { b < length (cells_of tree.now) }
-    ensures { OnOk result (Adds tree.now before.now (21 - (level_at tree.now a + level_at tree.now b))
-        (λ due looks. pair_spans tree.now due limits looks a b) spans.old.items spans.new.items) }
-{
-    if drops(tree, before, limits, a, b) {
-        return Ok(());
-    }
-    if stops(tree, limits, a, b) {
-        spans.push(Span {
-            first: a,
-            second: Some(b),
-        })?;
-        return Ok(());
-    }
-    if splits_first(tree, a, b) {
-        look_below_first(tree, before, limits, a, b, spans)
-    } else {
-        look_below_second(tree, before, limits, a, b, spans)
-    }
-}
-
-/// Looks at each child of the first cell and the second cell.
-#[cycle(look_pair)]
-fn look_below_first(
-    tree: &Tree,
-    before: &[u32],
-    limits: Limits,
-    a: u32,
-    b: u32,
-    spans: &mut Vec<Span>,
-) -> Result<(), AllocError>
-    requires can { CanBeMade tree.now }
-    requires long { length before.now ≡ leaf_count tree.now + 1 }
-    requires slack { limits.slack ≤ 65535 }
-    requires a { a < length (cells_of tree.now) }
-    requires b { b < length (cells_of tree.now) }
-    ensures { OnOk result (Adds tree.now before.now (20 - (level_at tree.now a + level_at tree.now b))
-        (λ due looks. flat_map (λ child. pair_spans tree.now due limits looks child b) (children_of tree.now a))
-        spans.old.items spans.new.items) }
-{
-    for child in tree.children(a) {
-        look_pair(tree, before, limits, *child, b, spans)?;
-    }
-    Ok(())
-}
-
-/// Looks at the first cell and each child of the second cell.
-#[cycle(look_pair)]
-fn look_below_second(
-    tree: &Tree,
-    before: &[u32],
-    limits: Limits,
-    a: u32,
-    b: u32,
-    spans: &mut Vec<Span>,
-) -> Result<(), AllocError>
-    requires can { CanBeMade tree.now }
-    requires long { length before.now ≡ leaf_count tree.now + 1 }
-    requires slack { limits.slack ≤ 65535 }
-    requires a { a < length (cells_of tree.now) }
-    requires b { b < length (cells_of tree.now) }
-    ensures { OnOk result (Adds tree.now before.now (20 - (level_at tree.now a + level_at tree.now b))
-        (λ due looks. flat_map (λ child. pair_spans tree.now due limits looks a child) (children_of tree.now b))
-        spans.old.items spans.new.items) }
-{
-    for child in tree.children(b) {
-        look_pair(tree, before, limits, a, *child, spans)?;
-    }
-    Ok(())
-}
-
-/// Looks at a cell and each of others.
-fn look_with(
-    tree: &Tree,
-    before: &[u32],
-    limits: Limits,
-    a: u32,
-    others: &[u32],
-    spans: &mut Vec<Span>,
-) -> Result<(), AllocError>
-    requires can { CanBeMade tree.now }
-    requires long { length before.now ≡ leaf_count tree.now + 1 }
-    requires slack { limits.slack ≤ 65535 }
-    requires a { a < length (cells_of tree.now) }
-    requires others { All (λ b. b < length (cells_of tree.now)) others.now }
-    ensures { OnOk result (Adds tree.now before.now 0
-        (λ due looks. flat_map (λ b. pair_spans tree.now due limits most_looks a b) others.now)
-        spans.old.items spans.new.items) }
-{
-    for b in others {
-        look_pair(tree, before, limits, a, *b, spans)?;
-    }
-    Ok(())
-}
-
-/// Looks at each two of some cells.
-fn look_pairs(
-    tree: &Tree,
-    before: &[u32],
-    limits: Limits,
-    cells: &[u32],
-    spans: &mut Vec<Span>,
-) -> Result<(), AllocError>
-    requires can { CanBeMade tree.now }
-    requires long { length before.now ≡ leaf_count tree.now + 1 }
-    requires slack { limits.slack ≤ 65535 }
-    requires cells { All (λ cell. cell < length (cells_of tree.now)) cells.now }
-    ensures { OnOk result (Adds tree.now before.now 0
-        (λ due looks. flat_map (λ two. pair_spans tree.now due limits most_looks two.0 two.1) (twos cells.now))
-        spans.old.items spans.new.items) }
-{
-    for (i, cell) in cells.iter().enumerate() {
-        look_with(tree, before, limits, *cell, &cells[i + 1..], spans)?;
-    }
-    Ok(())
-}
-
-/// Looks at one cell.
-fn look_self(
-    tree: &Tree,
-    before: &[u32],
-    limits: Limits,
-    cell: u32,
-    spans: &mut Vec<Span>,
-) -> Result<(), AllocError>
-    requires can { CanBeMade tree.now }
-    requires long { length before.now ≡ leaf_count tree.now + 1 }
-    requires slack { limits.slack ≤ 65535 }
-    requires cell { cell < length (cells_of tree.now) }
-    ensures { OnOk result (Adds tree.now before.now (11 - level_at tree.now cell)
-        (λ due looks. self_spans tree.now due limits looks cell) spans.old.items spans.new.items) }
-{
-    if !has_due(tree, before, cell) {
-        return Ok(());
-    }
-    if stops_alone(tree, limits, cell) {
-        spans.push(Span {
-            first: cell,
-            second: None,
-        })?;
-        return Ok(());
-    }
-    for child in tree.children(cell) {
-        look_self(tree, before, limits, *child, spans)?;
-    }
-    look_pairs(tree, before, limits, tree.children(cell), spans)
 }
 
 /// The spans of a tree whose points are due where their flag is set: wherever the points have moved within
@@ -272,8 +139,13 @@ pub fn cover(
     ensures few { IfOk result (λ spans. 2 * vec_len spans ≤ length tree.now.points * (length tree.now.points + 1)) }
 {
     let before = due_leaves(alloc, tree, due)?;
+    let look = Look {
+        tree,
+        before: &before,
+        limits,
+    };
     let mut spans = Vec::new(alloc);
-    look_self(tree, &before, limits, 0, &mut spans)?;
+    look.alone(0, &mut spans)?;
     Ok(spans)
 }
 

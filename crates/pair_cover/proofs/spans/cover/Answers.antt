@@ -12,13 +12,13 @@ use Rattle.pair_cover.proofs.SpanCells.{spans_cells}
 use Rattle.pair_cover.proofs.spans.cover.Goals as goal
 use Rattle.pair_cover.proofs.spans.cover.Goals.{After-drop-before-2}
 
-pub look_self-requires-clause-cell : goal.look_self-requires-clause-cell
-look_self-requires-clause-cell c = cells_some c.args.tree.now
+pub alone-requires : goal.alone-requires
+alone-requires c = cells_some c.args.tree.now
 
-spans_are : (c : After-drop-before-2) → c.look_self.new.spans.items ≡ spans_of c.args.tree.now c.args.due.now c.args.limits
+spans_are : (c : After-drop-before-2) → c.alone.new.spans.items ≡ spans_of c.args.tree.now c.args.due.now c.args.limits
 spans_are c =
     let counts : AreDueBefore c.args.tree.now c.args.due.now c.deref.result.now = subst (AreDueBefore c.args.tree.now c.args.due.now) (sym c.deref.ensures.value) c.in_ok-before.ensures.counts in
-    let added : Adds c.args.tree.now c.deref.result.now (11 - level_at c.args.tree.now 0) (λ due looks. self_spans c.args.tree.now due c.args.limits looks 0) c.new-spans.result.items c.look_self.new.spans.items = c.in_ok-look_self.ensures in
+    let added : Adds c.args.tree.now c.deref.result.now (11 - level_at c.args.tree.now 0) (λ due looks. self_spans c.args.tree.now due c.args.limits looks 0) c.new-spans.result.items c.alone.new.spans.items = c.in_ok-alone.ensures in
     added.added c.args.due.now most_looks counts (omega arith) ∙ ap (λ xs. xs ++ spans_of c.args.tree.now c.args.due.now c.args.limits) c.new-spans.ensures.items
 
 pub returns-clause-value : goal.returns-clause-value
@@ -35,6 +35,6 @@ returns-clause-cells c = subst (All (IsSpan c.args.tree.now)) (sym (spans_are c)
 pub returns-clause-few : goal.returns-clause-few
 returns-clause-few c =
     let few = spans_few c.args.tree.now c.in_ok-before.ensures.can c.args.due.now c.args.limits in
-    let long : length c.look_self.new.spans.items ≡ length (spans_of c.args.tree.now c.args.due.now c.args.limits) = ap length (spans_are c) in
-    let ok = c.look_self.new.spans.ok.0 in
+    let long : length c.alone.new.spans.items ≡ length (spans_of c.args.tree.now c.args.due.now c.args.limits) = ap length (spans_are c) in
+    let ok = c.alone.new.spans.ok.0 in
     omega arith

@@ -1,7 +1,0 @@
-use Rattle.pair_cover.specs.Looks.{pair_spans, most_looks}
-use Rattle.pair_cover.proofs.LookSteps.{AddsTwos}
-use Rattle.pair_cover.proofs.spans.look_pairs.Given as goal
-
-abbrev pub invariant-loop-i : goal.invariant-loop-i
-invariant-loop-i l =
-    AddsTwos l.fn.tree l.fn.before (λ due two. pair_spans l.fn.tree due l.fn.limits most_looks two.0 two.1) l.fn.cells l.fn.spans.items l.i l.spans.items

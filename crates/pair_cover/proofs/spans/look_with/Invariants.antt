@@ -1,7 +1,0 @@
-use Rattle.pair_cover.specs.Looks.{pair_spans, most_looks}
-use Rattle.pair_cover.proofs.LookSteps.{AddsTo}
-use Rattle.pair_cover.proofs.spans.look_with.Given as goal
-
-abbrev pub invariant-loop-b : goal.invariant-loop-b
-invariant-loop-b l =
-    AddsTo l.fn.tree l.fn.before (λ due looks b. pair_spans l.fn.tree due l.fn.limits most_looks l.fn.a b) l.fn.others l.fn.spans.items 0 l.b-index l.spans.items
