@@ -60,7 +60,7 @@ pub trait Work: Sync {
         requires { task < length (shape (plan self.now)).tasks }
         ensures { result ≡ edges_into (shape (plan self.now)) task };
 
-    /// How urgent a task is: tasks of greater weight are tried first.
+    /// How urgent a task is: the greater, the more urgent.
     fn weight(&self, task: u32) -> u64
         requires { task < length (shape (plan self.now)).tasks }
         ensures { result ≡ (task_at (shape (plan self.now)) task).weight };

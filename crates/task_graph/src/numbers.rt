@@ -1,14 +1,13 @@
 //! Where the numbers of each kind of task begin.
 ghost use Rattle.std.specs.Prelude.{◌≡◌, ◌+◌, ◌<◌, ◌≤◌, ◌^◌};
 
-/// The first number of each kind but the drifts, which begin with 0, and how many tasks there are.
+/// The first number of each kind but the drifts, which begin with 0.
 #[derive(Clone, Copy, Debug, PartialEq, Eq)]
 pub struct Numbers {
     pub densities: u32,
     pub ghosts: u32,
     pub forces: u32,
     pub kicks: u32,
-    pub end: u32,
 }
 
 impl Numbers {
@@ -21,7 +20,6 @@ impl Numbers {
         ensures ghosts { result.ghosts ≡ drifting + spans }
         ensures forces { result.forces ≡ drifting + spans + dues }
         ensures kicks { result.kicks ≡ drifting + spans + dues + spans }
-        ensures end { result.end ≡ drifting + spans + dues + spans + dues }
     {
         let (drifting, spans, dues) = (drifting as u32, spans as u32, dues as u32);
         let forces = drifting + spans + dues;
@@ -30,7 +28,6 @@ impl Numbers {
             ghosts: drifting + spans,
             forces,
             kicks: forces + spans,
-            end: forces + spans + dues,
         }
     }
 }
