@@ -1,126 +1,138 @@
--- The gap of two cubes on an axis and in the box, and the law that moved points keep it.
-use Rattle.std.proofs.Common.{◌≡◌, ℕ, ◌+◌, ◌-◌, ◌*◌, ◌^◌, ◌<◌, ◌≤◌, min, max, List, get_or, inl, inr, ◌∙◌, arith}
+-- The gap of two cubes on an axis, from their ends, and the law that moved points keep it.
+use Rattle.std.proofs.Common.{◌≡◌, ℕ, ◌+◌, ◌-◌, ◌*◌, ◌^◌, ◌<◌, ◌≤◌, min, max, List, map, flat_map, get_or, subst, inl, inr, ◌∙◌, arith}
+use Rattle.std.specs.List.{All, Contains}
 use Rattle.std.proofs.lemmas.Bool.{cases_lt}
+use Rattle.std.proofs.lemmas.List.Elements.{All-contains, All-map}
 use Rattle.std.proofs.lemmas.Nat.{mul-le}
-use Rattle.sph_num.specs.Space.{IsPlace, axis2}
+use Rattle.lists.proofs.Elements.{Contains-map, Contains-flat_map, All-flat_map, All-from_Contains}
+use Rattle.lists.proofs.Extremes.{fold_min-ge, All-fold_min}
+use Rattle.sph_num.specs.Bound.{least_of}
+use Rattle.sph_num.specs.Space.{box_side, apart, axis2}
+use Rattle.sph_num.proofs.Ring.{coordinate-lt, apart_is, apart_self, apart-comm, apart_moved}
 use Rattle.cell_geom.specs.declared.cube.Cube.{Cube}
 use Rattle.cell_geom.specs.Cube.{cube_holds}
-use Rattle.cell_geom.specs.Gap.{IsOnAxis, apart, AreEnds, IsAxisGap, slackened, IsGap2, IsMoved, KeepsGap}
-use Rattle.cell_geom.proofs.Ring.{apart_is, apart_self, apart-comm, apart_moved}
+use Rattle.cell_geom.specs.Gap.{coordinates, axis_gap_of, gap2_of, slackened, IsMoved, KeepsGap}
+use Rattle.cell_geom.specs.inner.Ends.{AreEnds}
+use Rattle.cell_geom.proofs.Ends.{Contains-coordinates, ordered, between_ends, Contains-between}
+
+-- the number is the distance of a coordinate of the one cube from one of the other, and no distance is less
+record IsLeast (a b : Cube) (axis gap : ℕ) : Type 0 where
+  x : ℕ
+  y : ℕ
+  of_a : Contains (coordinates a axis) x
+  of_b : Contains (coordinates b axis) y
+  reached : apart x y ≡ gap
+  least : (x y : ℕ) → Contains (coordinates a axis) x → Contains (coordinates b axis) y → gap ≤ apart x y
+
+-- a number that is no more than any of the list, and is one of them, is the least
+least_is : (least : ℕ) (xs : List ℕ) → All (λ x. least ≤ x) xs → Contains xs least → least_of xs ≡ least
+least_is least xs each c =
+    let l = c.1 in
+    let first = get_or xs 0 0 in
+    let low = fold_min-ge least first xs (each 0 0 (omega arith)) each in
+    let high = All-contains (λ x. least_of xs ≤ x) xs least (All-fold_min first xs) c in
+    omega arith
+
+-- the least distance is the gap
+axis_gap_is : (a b : Cube) (axis gap : ℕ) → IsLeast a b axis gap → axis_gap_of a b axis ≡ gap
+unfolding axis_gap_of
+axis_gap_is a b axis gap is =
+    let from = λ (x : ℕ). map (λ y. apart x y) (coordinates b axis) in
+    let distances = flat_map from (coordinates a axis) in
+    least_is gap distances
+    (All-flat_map (λ d. gap ≤ d) from (coordinates a axis)
+    (All-from_Contains (λ x. All (λ d. gap ≤ d) (from x)) (coordinates a axis)
+    (λ x c. All-map (λ d. gap ≤ d) (λ y. apart x y) (coordinates b axis)
+    (All-from_Contains (λ y. gap ≤ apart x y) (coordinates b axis) (λ y d. is.least x y c d)))))
+    (subst (Contains distances) is.reached
+    (Contains-flat_map from (coordinates a axis) is.x (apart is.x is.y) is.of_a (Contains-map (λ y. apart is.x y) (coordinates b axis) is.y is.of_b)))
 
 -- a cube below another on an axis: the nearest coordinates are the ends that face each other, one way round or the other
-facing_ends : (a b : Cube) (axis a0 a1 b0 b1 gap : ℕ) → AreEnds a axis a0 a1 → AreEnds b axis b0 b1 → a1 < b0 → gap ≡ min (b0 - a1) (a0 + 2 ^ 20 - b1) → (x : ℕ) × (y : ℕ) × (a0 ≤ x) × (x ≤ a1) × (b0 ≤ y) × (y ≤ b1) × (apart x y ≡ gap)
+facing_ends : (a b : Cube) (axis a0 a1 b0 b1 gap : ℕ) → AreEnds a axis a0 a1 → AreEnds b axis b0 b1 → a1 < b0 → gap ≡ min (b0 - a1) (a0 + box_side - b1) → IsLeast a b axis gap
 facing_ends a b axis a0 a1 b0 b1 gap of_a of_b below is =
     let low_a = of_a.in_box in
     let low_b = of_b.in_box in
-    let order_a = of_a.ordered in
-    let order_b = of_b.ordered in
+    let order_a = ordered a axis a0 a1 of_a in
+    let order_b = ordered b axis b0 b1 of_b in
+    let first_a = Contains-between a axis a0 a1 of_a a0 (omega arith) order_a in
+    let last_a = Contains-between a axis a0 a1 of_a a1 order_a (omega arith) in
+    let first_b = Contains-between b axis b0 b1 of_b b0 (omega arith) order_b in
+    let last_b = Contains-between b axis b0 b1 of_b b1 order_b (omega arith) in
+    let least = λ (x y : ℕ) (on_a : Contains (coordinates a axis) x) (on_b : Contains (coordinates b axis) y).
+    let within_a = between_ends a axis a0 a1 of_a x on_a in
+    let within_b = between_ends b axis b0 b1 of_b y on_b in
+    let far : gap ≤ apart x y = omega (arith, apart_is x y (omega arith) (omega arith)) in far in
     elim (cases_lt (a0 + 2 ^ 20 - b1) (b0 - a1)) [
-      | inl across ↦ (a0, b1, omega arith, order_a, order_b, omega arith, omega (arith, apart_is a0 b1 (omega arith) low_b))
-      | inr within ↦ (a1, b0, order_a, omega arith, omega arith, order_b, omega (arith, apart_is a1 b0 low_a (omega arith)))
+      | inl across ↦ record { x = a0; y = b1; of_a = first_a; of_b = last_b; reached = omega (arith, apart_is a0 b1 (omega arith) low_b); least = least }
+      | inr within ↦ record { x = a1; y = b0; of_a = last_a; of_b = first_b; reached = omega (arith, apart_is a1 b0 low_a (omega arith)); least = least }
     ]
 
--- so that is their gap there
-pub IsAxisGap-below : (a b : Cube) (axis a0 a1 b0 b1 gap : ℕ) → AreEnds a axis a0 a1 → AreEnds b axis b0 b1 → a1 < b0 → gap ≡ min (b0 - a1) (a0 + 2 ^ 20 - b1) → IsAxisGap a b axis gap
-IsAxisGap-below a b axis a0 a1 b0 b1 gap of_a of_b below is =
-    let ends = facing_ends a b axis a0 a1 b0 b1 gap of_a of_b below is in
-    record {
-      x = ends.0;
-      y = ends.1;
-      of_a = of_a.inside ends.0 ends.2 ends.3;
-      of_b = of_b.inside ends.1 ends.4 ends.5;
-      reached = ends.6;
-      least = λ x y on_a on_b.
-          let within_a = of_a.all x on_a in
-          let within_b = of_b.all y on_b in
-          omega (arith, apart_is x y on_a.in_box on_b.in_box);
-    }
+module _ (a b : Cube) (axis a0 a1 b0 b1 : ℕ) (of_a : AreEnds a axis a0 a1) (of_b : AreEnds b axis b0 b1) where
+  -- so that is the gap of a cube from one above it
+  pub axis_gap_of-below : (gap : ℕ) → a1 < b0 → gap ≡ min (b0 - a1) (a0 + box_side - b1) → axis_gap_of a b axis ≡ gap
+  axis_gap_of-below gap below is = axis_gap_is a b axis gap (facing_ends a b axis a0 a1 b0 b1 gap of_a of_b below is)
 
--- the gap on an axis is the same from both cubes
-pub IsAxisGap-turned : (a b : Cube) (axis gap : ℕ) → IsAxisGap a b axis gap → IsAxisGap b a axis gap
-IsAxisGap-turned a b axis gap is = record {
-  x = is.y;
-  y = is.x;
-  of_a = is.of_b;
-  of_b = is.of_a;
-  reached = apart-comm is.y is.x is.of_b.in_box is.of_a.in_box ∙ is.reached;
-  least = λ y x on_b on_a. omega (arith, apart-comm y x on_b.in_box on_a.in_box, is.least x y on_a on_b);
-}
+  -- and from one below it
+  pub axis_gap_of-above : (gap : ℕ) → b1 < a0 → gap ≡ min (a0 - b1) (b0 + box_side - a1) → axis_gap_of a b axis ≡ gap
+  axis_gap_of-above gap above is =
+      let turned = facing_ends b a axis b0 b1 a0 a1 gap of_b of_a above is in
+      let low = λ (x : ℕ) (on_a : Contains (coordinates a axis) x). let w = between_ends a axis a0 a1 of_a x on_a in let l : x < box_side = omega (arith, of_a.in_box) in l in
+      let low' = λ (y : ℕ) (on_b : Contains (coordinates b axis) y). let w = between_ends b axis b0 b1 of_b y on_b in let l : y < box_side = omega (arith, of_b.in_box) in l in
+      axis_gap_is a b axis gap (record {
+        x = turned.y;
+        y = turned.x;
+        of_a = turned.of_b;
+        of_b = turned.of_a;
+        reached = apart-comm turned.y turned.x (low turned.y turned.of_b) (low' turned.x turned.of_a) ∙ turned.reached;
+        least = λ x y on_a on_b. omega (arith, apart-comm y x (low' y on_b) (low x on_a), turned.least y x on_b on_a);
+      })
 
--- two cubes that share a coordinate on an axis have no gap there
-pub IsAxisGap-shared : (a b : Cube) (axis a0 a1 b0 b1 : ℕ) → AreEnds a axis a0 a1 → AreEnds b axis b0 b1 → b0 ≤ a1 → a0 ≤ b1 → IsAxisGap a b axis 0
-IsAxisGap-shared a b axis a0 a1 b0 b1 of_a of_b up down =
-    let x = max a0 b0 in
-    let on_a = of_a.inside x (omega arith) (omega (arith, of_a.ordered)) in
-    record {
-      x = x;
-      y = x;
-      of_a = on_a;
-      of_b = of_b.inside x (omega arith) (omega (arith, of_b.ordered));
-      reached = apart_self x on_a.in_box;
-      least = λ x y on_a on_b. omega arith;
-    }
+  -- two cubes that share a coordinate on an axis have no gap there
+  pub axis_gap_of-shared : b0 ≤ a1 → a0 ≤ b1 → axis_gap_of a b axis ≡ 0
+  axis_gap_of-shared up down =
+      let x = max a0 b0 in
+      let order_a = ordered a axis a0 a1 of_a in
+      let order_b = ordered b axis b0 b1 of_b in
+      axis_gap_is a b axis 0 (record {
+        x = x;
+        y = x;
+        of_a = Contains-between a axis a0 a1 of_a x (omega arith) (omega arith);
+        of_b = Contains-between b axis b0 b1 of_b x (omega arith) (omega arith);
+        reached = apart_self x (omega (arith, of_a.in_box));
+        least = λ x y on_a on_b. omega arith;
+      })
 
--- there is one gap on an axis
-IsAxisGap-unique : (a b : Cube) (axis gap gap' : ℕ) → IsAxisGap a b axis gap → IsAxisGap a b axis gap' → gap ≡ gap'
-IsAxisGap-unique a b axis gap gap' is is' =
-    omega (arith, is.reached, is'.reached, is.least is'.x is'.y is'.of_a is'.of_b, is'.least is.x is.y is.of_a is.of_b)
-
--- the square of the gap is the same from both cubes
-pub IsGap2-turned : (a b : Cube) (slack gap2 : ℕ) → IsGap2 a b slack gap2 → IsGap2 b a slack gap2
-IsGap2-turned a b slack gap2 is = record {
-  on_x = is.on_x;
-  on_y = is.on_y;
-  on_z = is.on_z;
-  x_is = IsAxisGap-turned a b 0 is.on_x is.x_is;
-  y_is = IsAxisGap-turned a b 1 is.on_y is.y_is;
-  z_is = IsAxisGap-turned a b 2 is.on_z is.z_is;
-  sum = is.sum;
-}
-
--- there is one square of the gap
-pub IsGap2-unique : (a b : Cube) (slack gap2 gap2' : ℕ) → IsGap2 a b slack gap2 → IsGap2 a b slack gap2' → gap2 ≡ gap2'
-IsGap2-unique a b slack gap2 gap2' is is' =
-    let x = IsAxisGap-unique a b 0 is.on_x is'.on_x is.x_is is'.x_is in
-    let y = IsAxisGap-unique a b 1 is.on_y is'.on_y is.y_is is'.y_is in
-    let z = IsAxisGap-unique a b 2 is.on_z is'.on_z is.z_is is'.z_is in
-    cc (is.sum, is'.sum)
-
--- a place's coordinates
-pub coordinate-lt : (place : List ℕ) (axis : ℕ) → IsPlace place → axis < 3 → get_or place axis 0 < 2 ^ 20
-coordinate-lt place axis is low = is.1 axis 0 (omega (arith, is.0))
-
--- no coordinates of two cubes are nearer than the gap
-abbrev pub NoneNearer : Cube → Cube → ℕ → ℕ → Type 0
-NoneNearer a b axis gap = (x y : ℕ) → IsOnAxis a axis x → IsOnAxis b axis y → gap ≤ apart x y
+-- no coordinates of two cubes are nearer than their gap
+axis_gap_of-le : (a b : Cube) (axis x y : ℕ) → Contains (coordinates a axis) x → Contains (coordinates b axis) y → axis_gap_of a b axis ≤ apart x y
+unfolding axis_gap_of
+axis_gap_of-le a b axis x y on_a on_b =
+    let from = λ (x : ℕ). map (λ y. apart x y) (coordinates b axis) in
+    let distances = flat_map from (coordinates a axis) in
+    All-contains (λ d. least_of distances ≤ d) distances (apart x y) (All-fold_min (get_or distances 0 0) distances)
+    (Contains-flat_map from (coordinates a axis) x (apart x y) on_a (Contains-map (λ y. apart x y) (coordinates b axis) y on_b))
 
 -- on one axis, points that two cubes hold keep the gap as they move
-axis_keeps : (a b : Cube) (slack axis gap : ℕ) (p q p' q' : List ℕ) → axis < 3 → NoneNearer a b axis gap → cube_holds a p → cube_holds b q → IsMoved slack p p' → IsMoved slack q q'
-    → slackened gap slack ≤ axis2 p' q' axis
-axis_keeps a b slack axis gap p q p' q' low least held_p held_q moved_p moved_q =
+axis_keeps : (a b : Cube) (slack axis : ℕ) (p q p' q' : List ℕ) → axis < 3 → cube_holds a p → cube_holds b q → IsMoved slack p p' → IsMoved slack q q'
+    → slackened (axis_gap_of a b axis) slack ≤ axis2 p' q' axis
+axis_keeps a b slack axis p q p' q' low held_p held_q moved_p moved_q =
+    let gap = axis_gap_of a b axis in
     let x = get_or p axis 0 in
     let y = get_or q axis 0 in
     let x' = get_or p' axis 0 in
     let y' = get_or q' axis 0 in
-    let low_x = coordinate-lt p axis moved_p.was low in
-    let low_y = coordinate-lt q axis moved_q.was low in
-    let before = least x y (record { in_box = low_x; held = held_p axis low }) (record { in_box = low_y; held = held_q axis low }) in
-    let after = apart_moved x y x' y' low_x low_y (coordinate-lt p' axis moved_p.now low) (coordinate-lt q' axis moved_q.now low) in
+    let before = axis_gap_of-le a b axis x y (Contains-coordinates a axis x (held_p axis low)) (Contains-coordinates b axis y (held_q axis low)) in
+    let after = apart_moved x y x' y' (coordinate-lt p axis moved_p.was low) (coordinate-lt q axis moved_q.was low) (coordinate-lt p' axis moved_p.now low) (coordinate-lt q' axis moved_q.now low) in
     let near : gap - 2 * slack ≤ apart x' y' = omega (arith, moved_p.near axis low, moved_q.near axis low) in
     mul-le (gap - 2 * slack) (gap - 2 * slack) (apart x' y') (apart x' y') near near
 
 -- a sum of three numbers, each within its bound
-sum3-le : (a b c l m n s : ℕ) → a + b + c ≡ s → a ≤ l → b ≤ m → c ≤ n → s ≤ l + m + n
-sum3-le a b c l m n s is p q r = omega arith
+sum3-le : (a b c l m n : ℕ) → a ≤ l → b ≤ m → c ≤ n → a + b + c ≤ l + m + n
+sum3-le a b c l m n p q r = omega arith
 
--- so in the box they keep the squares of the three gaps
-pub KeepsGap-from_axes : (a b : Cube) (slack x y z gap2 : ℕ) → slackened x slack + slackened y slack + slackened z slack ≡ gap2 → NoneNearer a b 0 x → NoneNearer a b 1 y → NoneNearer a b 2 z → KeepsGap a b slack gap2
-KeepsGap-from_axes a b slack x y z gap2 sum on_x on_y on_z p q p' q' held_p held_q moved_p moved_q =
-    sum3-le (slackened x slack) (slackened y slack) (slackened z slack) (axis2 p' q' 0) (axis2 p' q' 1) (axis2 p' q' 2) gap2 sum
-    (axis_keeps a b slack 0 x p q p' q' (omega arith) on_x held_p held_q moved_p moved_q)
-    (axis_keeps a b slack 1 y p q p' q' (omega arith) on_y held_p held_q moved_p moved_q)
-    (axis_keeps a b slack 2 z p q p' q' (omega arith) on_z held_p held_q moved_p moved_q)
-
--- moved points keep the gap
-pub KeepsGap-from_IsGap2 : (a b : Cube) (slack gap2 : ℕ) → IsGap2 a b slack gap2 → KeepsGap a b slack gap2
-KeepsGap-from_IsGap2 a b slack gap2 is = KeepsGap-from_axes a b slack is.on_x is.on_y is.on_z gap2 is.sum is.x_is.least is.y_is.least is.z_is.least
+-- so in the box they keep the square of the gap
+pub KeepsGap-gap2_of : (a b : Cube) (slack : ℕ) → KeepsGap a b slack (gap2_of a b slack)
+KeepsGap-gap2_of a b slack p q p' q' held_p held_q moved_p moved_q =
+    sum3-le (slackened (axis_gap_of a b 0) slack) (slackened (axis_gap_of a b 1) slack) (slackened (axis_gap_of a b 2) slack) (axis2 p' q' 0) (axis2 p' q' 1) (axis2 p' q' 2)
+    (axis_keeps a b slack 0 p q p' q' (omega arith) held_p held_q moved_p moved_q)
+    (axis_keeps a b slack 1 p q p' q' (omega arith) held_p held_q moved_p moved_q)
+    (axis_keeps a b slack 2 p q p' q' (omega arith) held_p held_q moved_p moved_q)

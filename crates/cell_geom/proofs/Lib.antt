@@ -1,4 +1,3 @@
-pub mod Ring
 pub mod Ends
 pub mod Gaps
 pub mod Nesting

@@ -1,14 +1,18 @@
 -- Cubes of the periodic box: level L cuts the box into 2^L cubes along each axis.
-use Rattle.std.specs.Prelude.{◌≡◌, ℕ, ◌+◌, ◌-◌, ◌*◌, ◌/◌, ◌%◌, ◌^◌, ◌<◌, ◌≤◌, List, [], ◌∷◌, length, slice_index}
+use Rattle.std.specs.Prelude.{◌≡◌, ℕ, ◌+◌, ◌-◌, ◌*◌, ◌/◌, ◌%◌, ◌^◌, ◌<◌, ◌≤◌, List, [], ◌∷◌, length, slice_index, Bool, true, nat_le, suc, ◌&&◌, ◌==◌}
 use Rattle.cell_geom.specs.declared.cube.Cube.{Cube}
+
+-- the level of the smallest cubes
+abbrev pub deepest_level : ℕ
+deepest_level = 10
 
 -- the cube is one of its level's
 pub record IsCube (cube : Cube) : Type 0 where
-  pub level : cube.level ≤ 10
+  pub level : cube.level ≤ deepest_level
   pub three : length cube.at ≡ 3
   pub within : (axis : ℕ) → axis < 3 → slice_index cube.at axis < 2 ^ cube.level
 
--- the side of a cube of this level, in length units
+-- the side of a cube of this level, in length units; the box's is 2^20
 abbrev pub side_of : ℕ → ℕ
 side_of level = 2 ^ (20 - level)
 
@@ -31,7 +35,18 @@ child_of cube octant = record {
   at = (2 * slice_index cube.at 0 + octant % 2) ∷ (2 * slice_index cube.at 1 + (octant / 2) % 2) ∷ (2 * slice_index cube.at 2 + (octant / 4) % 2) ∷ [];
 }
 
+-- on this axis the inner cube, of no smaller level, lies in the outer one
+abbrev pub lies_along : Cube → Cube → ℕ → Bool
+lies_along outer inner axis = slice_index inner.at axis / 2 ^ (inner.level - outer.level) == slice_index outer.at axis
+
 -- the inner cube lies in the outer one, or is the same
-pub record CubeContains (outer inner : Cube) : Type 0 where
-  pub level : outer.level ≤ inner.level
-  pub within : (axis : ℕ) → axis < 3 → slice_index inner.at axis / 2 ^ (inner.level - outer.level) ≡ slice_index outer.at axis
+unfoldable pub cube_contains : Cube → Cube → Bool
+cube_contains outer inner =
+    nat_le outer.level inner.level && lies_along outer inner 0 && lies_along outer inner 1 && lies_along outer inner 2
+
+abbrev pub CubeContains : Cube → Cube → Type 0
+CubeContains outer inner = cube_contains outer inner ≡ true
+
+-- the inner cube has half the outer one's side and lies in it
+abbrev pub is_octant_of : Cube → Cube → Bool
+is_octant_of outer inner = (inner.level == suc outer.level) && cube_contains outer inner

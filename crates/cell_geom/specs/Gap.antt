@@ -1,47 +1,27 @@
 -- How near two cubes come to each other, across the periodic face too.
-use Rattle.std.specs.Prelude.{◌≡◌, ℕ, ◌+◌, ◌-◌, ◌*◌, ◌/◌, ◌^◌, ◌<◌, ◌≤◌, List, slice_index, unsigned_abs}
-use Rattle.sph_num.specs.Space.{IsPlace, minimal, dist2}
+use Rattle.std.specs.Prelude.{ℕ, ◌+◌, ◌-◌, ◌*◌, ◌<◌, ◌≤◌, List, slice_index, map, flat_map}
+use Rattle.std.specs.List.{range_with_len}
+use Rattle.sph_num.specs.Bound.{least_of}
+use Rattle.sph_num.specs.Space.{IsPlace, apart, dist2}
 use Rattle.cell_geom.specs.declared.cube.Cube.{Cube}
 use Rattle.cell_geom.specs.Cube.{side_of, cube_holds}
 
--- the coordinate is one of the cube's on this axis
-pub record IsOnAxis (cube : Cube) (axis x : ℕ) : Type 0 where
-  pub in_box : x < 2 ^ 20
-  pub held : x / side_of cube.level ≡ slice_index cube.at axis
+-- the coordinates of a cube on an axis
+abbrev pub coordinates : Cube → ℕ → List ℕ
+coordinates cube axis = range_with_len (slice_index cube.at axis * side_of cube.level) (side_of cube.level)
 
--- the cube's coordinates on this axis go from first to last
-pub record AreEnds (cube : Cube) (axis first last : ℕ) : Type 0 where
-  pub ordered : first ≤ last
-  pub in_box : last < 2 ^ 20
-  pub inside : (x : ℕ) → first ≤ x → x ≤ last → IsOnAxis cube axis x
-  pub all : (x : ℕ) → IsOnAxis cube axis x → (first ≤ x) × (x ≤ last)
-
--- the distance of two coordinates
-abbrev pub apart : ℕ → ℕ → ℕ
-apart x y = unsigned_abs (minimal x y)
-
--- gap is the least distance on this axis of a coordinate of the one cube from one of the other
-pub record IsAxisGap (a b : Cube) (axis gap : ℕ) : Type 0 where
-  pub x : ℕ
-  pub y : ℕ
-  pub of_a : IsOnAxis a axis x
-  pub of_b : IsOnAxis b axis y
-  pub reached : apart x y ≡ gap
-  pub least : (x' y' : ℕ) → IsOnAxis a axis x' → IsOnAxis b axis y' → gap ≤ apart x' y'
+-- the gap of two cubes on an axis: the least distance of a coordinate of the one cube from one of the other
+unfoldable pub axis_gap_of : Cube → Cube → ℕ → ℕ
+axis_gap_of a b axis = least_of (flat_map (λ x. map (λ y. apart x y) (coordinates b axis)) (coordinates a axis))
 
 -- what an axis adds to the square of the gap, where a point of each cube may have moved by the slack towards the other
 abbrev pub slackened : ℕ → ℕ → ℕ
 slackened gap slack = (gap - 2 * slack) * (gap - 2 * slack)
 
 -- the square of the gap of two cubes: over the three axes, each gap less twice the slack, at least 0
-pub record IsGap2 (a b : Cube) (slack gap2 : ℕ) : Type 0 where
-  pub on_x : ℕ
-  pub on_y : ℕ
-  pub on_z : ℕ
-  pub x_is : IsAxisGap a b 0 on_x
-  pub y_is : IsAxisGap a b 1 on_y
-  pub z_is : IsAxisGap a b 2 on_z
-  pub sum : slackened on_x slack + slackened on_y slack + slackened on_z slack ≡ gap2
+abbrev pub gap2_of : Cube → Cube → ℕ → ℕ
+gap2_of a b slack =
+    slackened (axis_gap_of a b 0) slack + slackened (axis_gap_of a b 1) slack + slackened (axis_gap_of a b 2) slack
 
 -- the places differ by at most this much on each axis
 pub record IsMoved (slack : ℕ) (from to : List ℕ) : Type 0 where

@@ -1,3 +1,4 @@
 pub use Rattle.sph_num.specs.Space
 pub mod Cube
 pub mod Gap
+pub mod inner

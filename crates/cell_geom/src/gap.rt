@@ -1,12 +1,11 @@
 //! The gap between two cubes.
-ghost use Rattle.std.specs.Prelude.{◌≡◌, ◌<◌, ◌≤◌, ◌^◌, ℕ};
+ghost use Rattle.std.specs.Prelude.{◌≡◌, ◌<◌, ◌≤◌, ◌^◌};
 ghost use Rattle.cell_geom.specs.Cube.{IsCube};
-ghost use Rattle.cell_geom.specs.Gap.{IsGap2, KeepsGap, AreEnds, IsAxisGap, slackened};
+ghost use Rattle.cell_geom.specs.Gap.{axis_gap_of, gap2_of, KeepsGap, slackened};
+ghost use Rattle.cell_geom.specs.inner.Ends.{AreEnds};
 
 use crate::cube::Cube;
-
-/// The side of the box, in length units.
-const SIDE: u32 = 1 << 20;
+use sph_num::BOX_SIDE;
 
 /// The square of the gap of two cubes, in squares of length units, where a point of each may have moved
 /// by the slack on each axis.
@@ -14,7 +13,7 @@ pub fn gap2(a: Cube, b: Cube, slack: u32) -> u64
     requires a { IsCube a }
     requires b { IsCube b }
     requires slack { slack ≤ 65535 }
-    ensures value { IsGap2 a b slack result }
+    ensures value { result ≡ gap2_of a b slack }
     ensures law { KeepsGap a b slack result }
     ensures small { result < 2 ^ 40 }
 {
@@ -27,7 +26,7 @@ fn axis_gap2(a: Cube, b: Cube, axis: usize, slack: u32) -> u64
     requires b { IsCube b }
     requires axis { axis < 3 }
     requires slack { slack ≤ 65535 }
-    ensures value { (gap : ℕ) × IsAxisGap a b axis gap × (slackened gap slack ≡ result) }
+    ensures value { result ≡ slackened (axis_gap_of a b axis) slack }
     ensures small { result ≤ 2 ^ 38 }
 {
     let gap = u64::from(axis_gap(a, b, axis).saturating_sub(2 * slack));
@@ -40,15 +39,15 @@ fn axis_gap(a: Cube, b: Cube, axis: usize) -> u32
     requires a { IsCube a }
     requires b { IsCube b }
     requires axis { axis < 3 }
-    ensures value { IsAxisGap a b axis result }
+    ensures value { result ≡ axis_gap_of a b axis }
     ensures small { result ≤ 2 ^ 19 }
 {
     let (a_first, a_last) = ends(a, axis);
     let (b_first, b_last) = ends(b, axis);
     if a_last < b_first {
-        (b_first - a_last).min(a_first + SIDE - b_last)
+        (b_first - a_last).min(a_first + BOX_SIDE - b_last)
     } else if b_last < a_first {
-        (a_first - b_last).min(b_first + SIDE - a_last)
+        (a_first - b_last).min(b_first + BOX_SIDE - a_last)
     } else {
         0
     }

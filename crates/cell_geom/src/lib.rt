@@ -4,5 +4,5 @@
 mod cube;
 mod gap;
 
-pub use cube::{Cube, child, contains, holds, octant};
+pub use cube::{Cube, DEEPEST_LEVEL, child, contains, holds, octant};
 pub use gap::gap2;

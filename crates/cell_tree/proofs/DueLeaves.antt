@@ -5,14 +5,10 @@ use Rattle.std.proofs.lemmas.Bool.{cases_Bool, cases_lt, lt-ltb, le-ltb, true≢
 use Rattle.std.proofs.lemmas.List.{get_or_append_left, get_or_push}
 use Rattle.std.proofs.lemmas.List.Folds.{Any-from_list_any, list_any-from_Any}
 use Rattle.cell_tree.specs.Laws.{CanBeMade}
-use Rattle.cell_tree.specs.Tree.{Made, cells_of, cell_at, is_leaf, leaf_count, AreLeavesBelow, IsLeafCell}
-use Rattle.cell_tree.proofs.Cubes.{CubeContains-self}
-use Rattle.cell_tree.proofs.Members.{sound_at}
-use Rattle.cell_tree.proofs.Partition.{leaf_alone, IsPartition-from_CanBeMade}
-use Rattle.cell_tree.proofs.Shape.{Holds}
+use Rattle.cell_tree.specs.Tree.{Made, cells_of, cell_at, leaf_count, AreLeavesBelow, IsLeafCell}
 use Rattle.cell_tree.proofs.TreeLists.{one_cell}
 use Rattle.cell_tree.specs.Due.{has_due, CountsLeaf, AreDueBefore}
-use Rattle.cell_tree.proofs.SharedMembers.{outer_member, holds_sharing}
+use Rattle.cell_tree.proofs.Below.{member_below, below_member}
 
 -- a due member
 due_member : (made : Made) (due : List Bool) (cell : ℕ) → has_due made due cell ≡ true → (index : ℕ) × Contains (cell_at made cell).members index × (get_or due index false ≡ true)
@@ -39,32 +35,6 @@ module _ (made : Made) (due : List Bool) (before : List ℕ) (counts : AreDueBef
       let g = counts_grow i (j - i) (omega arith) in rw e at g
 
 module _ (made : Made) (can : CanBeMade made) (due : List Bool) where
-  -- a leaf's due member is one of each cell that contains it
-  due_outer : (cell at : ℕ) → cell < length (cells_of made) → at < length (cells_of made) → Holds (cell_at made cell) (cell_at made at) → has_due made due at ≡ true → has_due made due cell ≡ true
-  due_outer cell at l m h t =
-      let w = due_member made due at t in
-      due_from_member made due cell w.0 (outer_member made can cell at w.0 l m h w.1) w.2
-
-  -- a leaf that shares a member with a cell lies in it
-  leaf_lies : (cell at index : ℕ) → cell < length (cells_of made) → at < length (cells_of made) → is_leaf made (cell_at made at) ≡ true
-      → Contains (cell_at made cell).members index → Contains (cell_at made at).members index → Holds (cell_at made cell) (cell_at made at)
-  leaf_lies cell at index l m leaf c d =
-      elim (cases_lt (cell_at made at).cube.level (cell_at made cell).cube.level) [
-        | inl low ↦
-            let e = leaf_alone made at cell m l leaf (holds_sharing made can at cell index m l (omega arith) d c) in
-            subst (λ k. Holds (cell_at made k) (cell_at made at)) e (CubeContains-self (cell_at made at).cube)
-        | inr low ↦ holds_sharing made can cell at index l m low c d
-      ]
-
-  -- a cell with a due member contains a leaf with one
-  due_leaf : (cell : ℕ) → cell < length (cells_of made) → has_due made due cell ≡ true → (leaf : ℕ) × (at : ℕ) × IsLeafCell made leaf at × Holds (cell_at made cell) (cell_at made at) × (has_due made due at ≡ true)
-  due_leaf cell l t =
-      let w = due_member made due cell t in
-      let low = ((sound_at made can cell l).members w.0 w.1).0 in
-      let p = (IsPartition-from_CanBeMade made can).leaf_of_point w.0 low in
-      let h = p.2 in
-      (p.0, p.1, h.is_leaf, leaf_lies cell p.1 w.0 l h.is_leaf.within h.is_leaf.stands w.1 h.member, due_from_member made due p.1 w.0 h.member w.2)
-
   module _ (before : List ℕ) (counts : AreDueBefore made due before) where
     -- a leaf's step, by any name of its cell
     step_of : (leaf at : ℕ) → IsLeafCell made leaf at → leaf < leaf_count made → get_or before (leaf + 1) 0 ≡ get_or before leaf 0 + (if has_due made due at then 1 else 0)
@@ -90,11 +60,12 @@ module _ (made : Made) (can : CanBeMade made) (due : List Bool) where
         let within = below.within in
         elim (cases_Bool (has_due made due cell)) [
           | inl t ↦
-              let w = due_leaf cell l t in
-              let o = below.outside w.0 w.1 w.2 w.3 in
-              let high = o.1 in
-              let low = o.0 in
-              let s : get_or before (w.0 + 1) 0 ≡ get_or before w.0 0 + 1 = step_of w.0 w.1 w.2 (omega arith) ∙ ap (λ b. get_or before w.0 0 + (if b then 1 else 0)) w.4 in
+              let m = due_member made due cell t in
+              let w = member_below made can cell from to m.0 l below m.1 in
+              let low = w.3 in
+              let high = w.4 in
+              let here = due_from_member made due w.1 m.0 w.2.member m.2 in
+              let s : get_or before (w.0 + 1) 0 ≡ get_or before w.0 0 + 1 = step_of w.0 w.1 w.2.is_leaf (omega arith) ∙ ap (λ b. get_or before w.0 0 + (if b then 1 else 0)) here in
               let a = counts_rise made due before counts from w.0 low (omega arith) in
               let b = counts_rise made due before counts (w.0 + 1) to (omega arith) within in
               lt-ltb (get_or before from 0) (get_or before to 0) (omega arith) ∙ sym t
@@ -108,7 +79,10 @@ module _ (made : Made) (can : CanBeMade made) (due : List Bool) where
         none : (leaf at : ℕ) → has_due made due cell ≡ false → from ≤ leaf → leaf < to → IsLeafCell made leaf at → has_due made due at ≡ false
         none leaf at f low high is =
             elim (cases_Bool (has_due made due at)) [
-              | inl t ↦ absurd (true≢false (sym (due_outer cell at l is.within (below.inside leaf at is low high) t) ∙ f))
+              | inl t ↦
+                  let m = due_member made due at t in
+                  let own = below_member made can cell from to leaf at m.0 l below (record { is_leaf = is; member = m.1 }) low high in
+                  absurd (true≢false (sym (due_from_member made due cell m.0 own m.2) ∙ f))
               | inr u ↦ u
             ]
 

@@ -1,17 +1,16 @@
 -- Which cells of a tree are children of which, by the runs of cells that subtrees take.
-use Rattle.std.proofs.Common.{◌≡◌, ℕ, ◌+◌, ◌-◌, ◌<◌, ◌≤◌, true, false, eqb, [], length, slice_index_or, refl, ap, subst, inl, inr, arith}
-use Rattle.std.proofs.lemmas.Bool.{cases_order, cases_Bool}
+use Rattle.std.proofs.Common.{◌≡◌, ℕ, suc, ◌+◌, ◌-◌, ◌<◌, ◌≤◌, true, false, eqb, [], length, slice_index_or, refl, ap, subst, inl, inr, arith}
+use Rattle.std.proofs.lemmas.Bool.{cases_order, cases_Bool, eq-eqb}
 use Rattle.std.proofs.lemmas.List.Elements.{Contains-get_or}
 use Rattle.cell_tree.specs.Laws.{CanBeMade}
-use Rattle.cell_tree.specs.Tree.{Made, child_cell, cells_of, cell_at, is_leaf, IsParent}
-use Rattle.cell_tree.proofs.Cubes.{CubeContains-trans, CubeContains-turned, octant-below}
+use Rattle.cell_tree.specs.Tree.{Made, child_cell, cells_of, cell_at, is_leaf, IsParent, lies_in}
+use Rattle.cell_geom.proofs.Nesting.{CubeContains-trans, CubeContains-turned, octant-below, level_within, octant_within}
 use Rattle.cell_tree.proofs.Counts.{octant_in}
-use Rattle.sph_num.proofs.Members.{Contains-filter}
 use Rattle.cell_tree.proofs.Members.{sound_at, octants_place}
 use Rattle.cell_tree.proofs.Partition.{tree_nests, tree_parents}
-use Rattle.cell_tree.proofs.Shape.{Holds, size_in, cells_under-first}
+use Rattle.cell_tree.proofs.Shape.{size_in, cells_under-first}
 use Rattle.cell_tree.proofs.Under.{cells_under-split}
-use Rattle.std.proofs.lemmas.Bool.{eq-eqb}
+use Rattle.lists.proofs.Elements.{Contains-filter}
 
 -- how many cells the subtree of the cell of this number has
 abbrev pub size_at : Made → ℕ → ℕ
@@ -27,19 +26,19 @@ module _ (made : Made) where
   run_within = (tree_nests made).within
 
   -- a cell contains just the cells of its run
-  pub run_inside : (i j : ℕ) → i < length (cells_of made) → i ≤ j → j < i + size_at made i → Holds (cell_at made i) (cell_at made j)
+  pub run_inside : (i j : ℕ) → i < length (cells_of made) → i ≤ j → j < i + size_at made i → lies_in made i j ≡ true
   run_inside = (tree_nests made).inside
 
   -- what a cell contains stands in its run
-  pub run_outside : (i j : ℕ) → i < length (cells_of made) → j < length (cells_of made) → Holds (cell_at made i) (cell_at made j) → (i ≤ j) × (j < i + size_at made i)
+  pub run_outside : (i j : ℕ) → i < length (cells_of made) → j < length (cells_of made) → lies_in made i j ≡ true → (i ≤ j) × (j < i + size_at made i)
   run_outside = (tree_nests made).outside
 
   -- a cell that another contains, and that comes later, is of a lower level
-  pub level_deeper : (i j : ℕ) → i < j → j < length (cells_of made) → Holds (cell_at made i) (cell_at made j) → (cell_at made i).cube.level < (cell_at made j).cube.level
+  pub level_deeper : (i j : ℕ) → i < j → j < length (cells_of made) → lies_in made i j ≡ true → (cell_at made i).cube.level < (cell_at made j).cube.level
   level_deeper i j l m h =
       elim (cases_order (cell_at made i).cube.level (cell_at made j).cube.level) [
         | inl e ↦ let w = run_outside j i m (omega arith) (CubeContains-turned (cell_at made i).cube (cell_at made j).cube e h) in absurd (omega (arith, w.0))
-        | inr o ↦ elim o [ inl d ↦ d | inr u ↦ let a = h.level in absurd (omega arith) ]
+        | inr o ↦ elim o [ inl d ↦ d | inr u ↦ let a = level_within (cell_at made i).cube (cell_at made j).cube h in absurd (omega arith) ]
       ]
 
   -- a run that begins in another ends in it
@@ -54,15 +53,22 @@ module _ (made : Made) where
       let w = run_outside i (j + size_at made j - 1) l (omega arith) (CubeContains-trans (cell_at made i).cube (cell_at made j).cube (cell_at made (j + size_at made j - 1)).cube a b) in
       omega (arith, w.1)
 
-  -- a child stands in its parent's run
+  -- a child is of the next level, and lies in its parent
+  pub child_level : (p c : ℕ) → IsParent made p c → (cell_at made c).cube.level ≡ suc (cell_at made p).cube.level
+  child_level p c q = (octant_within (cell_at made p).cube (cell_at made c).cube q.octant).0
+
+  pub child_lies : (p c : ℕ) → IsParent made p c → lies_in made p c ≡ true
+  child_lies p c q = (octant_within (cell_at made p).cube (cell_at made c).cube q.octant).1
+
+  -- so it stands in its parent's run
   pub parent_run : (p c : ℕ) → IsParent made p c → c < p + size_at made p
-  parent_run p c q = let b = q.before in let w = q.within in (run_outside p c (omega arith) w q.contains).1
+  parent_run p c q = let b = q.before in let w = q.within in (run_outside p c (omega arith) w (child_lies p c q)).1
 
   -- a parent between two cells that nest closely is none
   parent_order : (p q c : ℕ) → IsParent made p c → IsParent made q c → p < q → ⊥
   parent_order p q c a b l =
-      let e = a.level in
-      let f = b.level in
+      let e = child_level p c a in
+      let f = child_level q c b in
       let w = b.within in
       let before = b.before in
       let r = parent_run p c a in
@@ -91,7 +97,7 @@ module _ (made : Made) where
           | inl above ↦
               let a = level_deeper w.0 i above l (run_inside w.0 i (omega arith) (omega arith) (omega arith)) in
               let b = level_deeper i c low c_in (run_inside i c l (omega arith) high) in
-              let e = w.1.level in absurd (omega arith)
+              let e = child_level w.0 c w.1 in absurd (omega arith)
           | inr below ↦ absurd (omega (arith, closed w.0 below before))
         ]
       ]
@@ -99,8 +105,8 @@ module _ (made : Made) where
   -- below a child no cell is a child
   pub no_child_in_run : (i c d : ℕ) → IsParent made i c → c < d → d < c + size_at made c → IsParent made i d → ⊥
   no_child_in_run i c d p low high q =
-      let e = p.level in
-      let f = q.level in
+      let e = child_level i c p in
+      let f = child_level i d q in
       let l = p.within in
       let a = level_deeper c d low q.within (run_inside c d l (omega arith) high) in
       omega arith

@@ -1,13 +1,14 @@
 -- The children of a cell, found run by run.
-use Rattle.std.proofs.Common.{◌≡◌, ℕ, ◌+◌, ◌-◌, ◌<◌, ◌≤◌, List, [], ◌∷◌, ◌++◌, length, take, drop, set, get_or, sym, ap, ◌∙◌, subst, ◌⊎◌, inl, inr, length-append, append_assoc, arith}
+use Rattle.std.proofs.Common.{◌≡◌, ℕ, ◌+◌, ◌-◌, ◌<◌, ◌≤◌, List, [], ◌∷◌, ◌++◌, length, set, get_or, sym, ap, ◌∙◌, subst, ◌⊎◌, inl, inr, length-append, append_assoc, arith}
 use Rattle.std.specs.List.{Contains, slice_range}
 use Rattle.std.specs.List.Sorted.{IsStrictlyIncreasing}
 use Rattle.std.proofs.lemmas.Bool.{cases_lt, cases_eq, cases_order}
-use Rattle.std.proofs.lemmas.List.{append-nil, get_or_append_left, get_or_push, get_or-set_same, get_or-set_other, length-set, length_push, drop-append-le, take-append-le, length-drop, drop_at, take_all, get_or_default}
+use Rattle.std.proofs.lemmas.List.{append-nil, get_or_append_left, get_or_push, get_or-set_same, get_or-set_other, length-set, length_push, get_or_default}
 use Rattle.std.proofs.lemmas.List.Elements.{Contains-append_left, Contains-push, Contains-push_cases}
-use Rattle.cell_tree.specs.Parts.{AreChildren, KnowsParents, AddsChildren, AreChildrenOf}
+use Rattle.cell_tree.specs.inner.Parts.{AreChildren, KnowsParents, AddsChildren, AreChildrenOf}
 use Rattle.cell_tree.specs.Tree.{Made, cells_of, IsParent}
 use Rattle.cell_tree.proofs.Family.{size_at, size_some, run_within, run_nested, parent_run, one_parent, child_from_closed, no_child_in_run}
+use Rattle.lists.proofs.Places.{slice_range-append, slice_range-end}
 
 -- a number above all others at the end
 IsStrictlyIncreasing-push : (xs : List ℕ) (x : ℕ) → IsStrictlyIncreasing xs → ((y : ℕ) → Contains xs y → y < x) → IsStrictlyIncreasing (xs ++ x ∷ [])
@@ -27,7 +28,6 @@ IsStrictlyIncreasing-push xs x r h k l =
 -- the cell's children before this number are found
 pub record HasFound (made : Made) (cell child : ℕ) (old numbers parents : List ℕ) : Type 0 where
   pub begun : cell < child
-  pub upto : child ≤ cell + size_at made cell
   pub closed : (d : ℕ) → cell < d → d < child → d + size_at made d ≤ child
   pub found : List ℕ
   pub joined : numbers ≡ old ++ found
@@ -43,7 +43,6 @@ module _ (made : Made) (cell : ℕ) (within : cell < length (cells_of made)) (ol
   pub HasFound-none : (parents : List ℕ) → length parents ≡ length (cells_of made) → KnowsParents made cell parents → HasFound made cell (cell + 1) old old parents
   HasFound-none parents l k = record {
     begun = omega arith;
-    upto = let s = size_some made cell in omega arith;
     closed = λ d low high. absurd (omega arith);
     found = [];
     joined = sym (append-nil old);
@@ -69,7 +68,6 @@ module _ (made : Made) (cell : ℕ) (within : cell < length (cells_of made)) (ol
         → HasFound made cell (child + size_at made child) old numbers' parents'
     HasFound-more numbers' parents' l e f = record {
       begun = let b = h.begun in omega arith;
-      upto = next_fits l;
       closed = closed;
       found = h.found ++ child ∷ [];
       joined = e ∙ ap (λ ns. ns ++ child ∷ []) h.joined ∙ append_assoc old h.found (child ∷ []);
@@ -137,16 +135,6 @@ module _ (made : Made) (cell : ℕ) (within : cell < length (cells_of made)) (ol
           | inr ne ↦ h.known p d (omega arith) q
         ]
 
--- what stands in a longer list within the shorter one
-slice_range-append : (xs ys : List ℕ) (i j : ℕ) → j ≤ length xs → i ≤ j → slice_range (xs ++ ys) i j ≡ slice_range xs i j
-slice_range-append xs ys i j l m =
-    ap (take (j - i)) (drop-append-le i xs ys (omega arith)) ∙ take-append-le (j - i) (drop i xs) ys (omega (arith, length-drop i xs))
-
--- what stands after the first list
-slice_range-end : (xs ys : List ℕ) (i j : ℕ) → i ≡ length xs → j ≡ length (xs ++ ys) → slice_range (xs ++ ys) i j ≡ ys
-slice_range-end xs ys i j e f =
-    ap (take (j - i)) (drop_at xs ys i (sym e)) ∙ take_all (j - i) ys (omega (arith, length-append xs ys))
-
 -- one cell's children more
 pub AreChildrenOf-more : (made : Made) (cell : ℕ) (starts starts' numbers numbers' : List ℕ) → AreChildrenOf made cell starts numbers → AddsChildren made cell numbers numbers'
     → starts' ≡ starts ++ length numbers' ∷ [] → AreChildrenOf made (cell + 1) starts' numbers'
@@ -182,7 +170,7 @@ AreChildrenOf-more made cell starts starts' numbers numbers' h a e = record {
         ap (λ ns. slice_range ns (get_or starts' k 0) (get_or starts' (k + 1) 0)) a.joined
         ∙ ap (λ i. slice_range (numbers ++ a.added) i (get_or starts' (k + 1) 0)) (kept k (omega arith))
         ∙ ap (slice_range (numbers ++ a.added) (get_or starts k 0)) (kept (k + 1) (omega arith))
-        ∙ slice_range-append numbers a.added (get_or starts k 0) (get_or starts (k + 1) 0) b (h.ordered k m) in
+        ∙ slice_range-append numbers a.added (get_or starts k 0) (get_or starts (k + 1) 0) (h.ordered k m) b in
         subst (AreChildren made k) (sym same) (h.are k m)
     are k (inr m) l =
         let s : k ≡ cell = omega arith in

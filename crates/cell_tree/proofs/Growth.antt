@@ -4,18 +4,20 @@ use Rattle.std.proofs.lemmas.Bool.{eq-eqb, ne_eqb}
 use Rattle.std.proofs.lemmas.List.{append-nil, nil_from_length, map-append, take_at, drop_at, set_at, get_or_at, length_push, length-map}
 use Rattle.std.proofs.lemmas.List.Concat.{flat_map-append}
 use Rattle.std.proofs.lemmas.List.Elements.{Contains-get_or}
+use Rattle.lists.proofs.Ranges.{flat_map_range_more}
 use borrow.Rule.Slice.PartMut.{put_mid}
 use Rattle.cell_geom.specs.declared.cube.Cube.{Cube}
 use Rattle.cell_geom.specs.Cube.{child_of}
 use Rattle.cell_tree.specs.declared.node.Node.{Node}
 use Rattle.cell_tree.specs.Tree.{Made, Cell, child_cell, is_leaf, reach_of}
-use Rattle.cell_tree.specs.Laws.{CanBeMade}
-use Rattle.cell_tree.specs.Nodes.{node_of, cell_over, leaf_members, members_in, in_octant, in_octants, IsSound, AreHeld}
-use Rattle.cell_tree.specs.Under.{cells_under, cells_in, cells_of_octants, cells_below}
+use Rattle.cell_tree.specs.Laws.{CanBeMade, most_cells}
+use Rattle.cell_tree.specs.inner.Nodes.{node_of, cell_over, leaf_members, members_in, in_octant, in_octants, IsSound}
+use Rattle.cell_tree.specs.inner.Under.{cells_under, cells_in, cells_of_octants, cells_below}
 use Rattle.cell_tree.proofs.Counts.{cells_under-bound}
 use Rattle.cell_tree.proofs.Members.{IsSound-child}
 use Rattle.cell_tree.proofs.Under.{IsSplit, cells_under-leaf, cells_under-split}
-use Rattle.cell_tree.proofs.OctantLists.{flat_map_numbers_more, in_octants_more}
+use Rattle.cell_tree.proofs.OctantLists.{in_octants_more}
+use Rattle.sph_num.specs.Ranges.{most_particles}
 
 module _ (made : Made) (cell : Cell) where
   -- the members of the octants before this one, in the order of the leaves
@@ -32,7 +34,7 @@ module _ (made : Made) (cell : Cell) where
 
   -- the cells of one octant more
   cells_more : (n : ℕ) → cells_of_octants made cell 0 (n + 1) ≡ cells_of_octants made cell 0 n ++ cells_in made cell n
-  cells_more n = flat_map_numbers_more (cells_in made cell) 0 n ∙ ap (λ k. cells_of_octants made cell 0 n ++ cells_in made cell k) (omega arith)
+  cells_more n = flat_map_range_more (cells_in made cell) 0 n ∙ ap (λ k. cells_of_octants made cell 0 n ++ cells_in made cell k) (omega arith)
 
   -- its members in the order of the leaves
   done_more : (n : ℕ) → done (n + 1) ≡ done n ++ members_in made (cells_in made cell n)
@@ -42,8 +44,7 @@ module _ (made : Made) (cell : Cell) where
   todo_more : (n : ℕ) → n < 8 → todo n ≡ part n ++ todo (n + 1)
   todo_more n l =
       let e : 8 - n ≡ suc (8 - (n + 1)) = omega arith in
-      let s : suc n ≡ n + 1 = omega arith in
-      ap (in_octants made.points cell.cube.level cell.members n) e ∙ ap (λ m. part n ++ in_octants made.points cell.cube.level cell.members m (8 - (n + 1))) s
+      ap (in_octants made.points cell.cube.level cell.members n) e
 
   -- the nodes of one octant more
   nodes_more : (n : ℕ) → map (node_of made) (cells_of_octants made cell 0 (n + 1)) ≡ map (node_of made) (cells_of_octants made cell 0 n) ++ map (node_of made) (cells_in made cell n)
@@ -144,19 +145,10 @@ module _ (made : Made) (cell : Cell) where
       let p = part_length n start end g.sorted e in
       ap length (part_stands before n members start end nodes g l e) ∙ omega arith
 
--- a sound cell's members are held by its cube
-pub AreHeld-from_IsSound : (made : Made) (cell : Cell) → CanBeMade made → IsSound made cell → AreHeld made.points cell.cube cell.members
-AreHeld-from_IsSound made cell can s = record {
-  in_box = s.in_box;
-  within = λ index c. (s.members index c).0;
-  places = λ index c. can.places index (s.members index c).0;
-  held = λ index c. (s.members index c).1;
-}
-
 -- a length for each member
 pub lengths_of_members : (made : Made) (cell : Cell) → CanBeMade made → IsSound made cell → (k : ℕ) → k < length cell.members → get_or cell.members k 0 < length made.lengths
 lengths_of_members made cell can s k l =
-    let w = (s.members (get_or cell.members k 0) (Contains-get_or cell.members k 0 l)).0 in
+    let w = (s.held.each (get_or cell.members k 0) (Contains-get_or cell.members k 0 l)).0 in
     omega (arith, can.one_length_each)
 
 -- the members of a leaf are in their order already
@@ -198,5 +190,5 @@ module _ (made : Made) (cell : Cell) (split : is_leaf made cell ≡ false) (befo
       ∙ ap (λ n. before ++ n ∷ map (node_of made) (cells_below made cell)) s ∙ ap (λ cells. before ++ map (node_of made) cells) (sym (cells_under-split made cell split))
 
 -- the subtree of a cell has so few cells that their number fits
-pub size_fits : (made : Made) (cell : Cell) → IsSound made cell → length cell.members ≤ 32768 → length (cells_under made cell) ≤ 360448
-size_fits made cell s short = let b = cells_under-bound made cell s.in_box.level s.some in omega arith
+pub size_fits : (made : Made) (cell : Cell) → IsSound made cell → length cell.members ≤ most_particles → length (cells_under made cell) ≤ most_cells
+size_fits made cell s short = let b = cells_under-bound made cell s.held.in_box.level s.some in omega arith

@@ -1,16 +1,15 @@
 -- The list of a tree's leaves, and how the leaves below two cells lie.
 use Rattle.std.proofs.Common.{◌≡◌, ℕ, zero, suc, ◌+◌, ◌-◌, ◌<◌, ◌≤◌, Bool, true, false, cond, List, [], ◌∷◌, length, take, get_or, filter, count_by, refl, sym, ap, ◌∙◌, subst, ◌⊎◌, inl, inr, arith}
-use Rattle.std.specs.Prelude.{Some, slice_get}
-use Rattle.std.proofs.lemmas.Bool.{cases_Bool, cases_lt}
+use Rattle.std.proofs.lemmas.Bool.{cases_Bool, cases_lt, true≢false}
 use Rattle.std.proofs.lemmas.List.{take_all}
 use Rattle.std.proofs.lemmas.List.Sums.{length-filter, sum_by-cons, sum_by_more}
-use Rattle.std.proofs.lemmas.Option.{slice_get-get_or}
+use Rattle.std.specs.List.{range_with_len}
+use Rattle.std.proofs.lemmas.List.FromFn.{length-range_with_len}
+use Rattle.lists.proofs.Ranges.{number_at}
 use Rattle.cell_tree.specs.Spans.{is_leaf_cell, leaf_cells}
-use Rattle.cell_tree.specs.Tree.{Made, cells_of, cell_at, no_cell, is_leaf, leaf_count, leaves_before, numbers_from, AreLeavesBelow, IsLeafCell}
-use Rattle.cell_tree.proofs.Cubes.{CubeContains-trans, CubeContains-sharing}
-use Rattle.cell_tree.proofs.LeafCounts.{leaves_before-all, leaves_before-le, leaves_before-leaf}
-use Rattle.cell_tree.proofs.Members.{length-numbers_from, number_at}
-use Rattle.cell_tree.proofs.Shape.{Holds}
+use Rattle.cell_tree.specs.Tree.{Made, cells_of, cell_at, no_cell, is_leaf, leaf_count, leaves_before, AreLeavesBelow, IsLeafCell, lies_in}
+use Rattle.cell_geom.proofs.Nesting.{CubeContains-trans, CubeContains-sharing}
+use Rattle.cell_tree.proofs.LeafCounts.{leaves_before-all}
 
 module _ {X : Type 0} (p : X → Bool) where
   -- a first element that passes counts
@@ -62,13 +61,13 @@ module _ {X : Type 0} (p : X → Bool) where
           record { place = suc w.place; within = let m = w.within in omega arith; passes = w.passes; count = count_by-yes x (take w.place xs) t ∙ ap suc w.count }
 
 -- what passes is counted by its places too
-count_places : {X : Type 0} (p : X → Bool) (d : X) (xs : List X) (k : ℕ) → k ≤ length xs → count_by (λ i. p (get_or xs i d)) (take k (numbers_from 0 (length xs))) ≡ count_by p (take k xs)
+count_places : {X : Type 0} (p : X → Bool) (d : X) (xs : List X) (k : ℕ) → k ≤ length xs → count_by (λ i. p (get_or xs i d)) (take k (range_with_len 0 (length xs))) ≡ count_by p (take k xs)
 count_places p d xs zero l = refl
 count_places p d xs (suc k) l =
-    let all = numbers_from 0 (length xs) in
+    let all = range_with_len 0 (length xs) in
     let e : suc k ≡ k + 1 = omega arith in
     let ih = count_places p d xs k (omega arith) in
-    let n = length-numbers_from 0 (length xs) in
+    let n = length-range_with_len 0 (length xs) in
     let more = sum_by_more (λ i. cond (p (get_or xs i d)) 1 0) all k 0 (omega arith) in
     let more' = sum_by_more (λ x. cond (p x) 1 0) xs k d (omega arith) in
     let here = number_at (length xs) k 0 (omega arith) in
@@ -79,46 +78,33 @@ count_places p d xs (suc k) l =
 
 module _ (made : Made) where
   -- the leaves before a cell, counted by their numbers
-  leaf_cells_before : (cell : ℕ) → cell ≤ length (cells_of made) → count_by (is_leaf_cell made) (take cell (numbers_from 0 (length (cells_of made)))) ≡ leaves_before made cell
+  leaf_cells_before : (cell : ℕ) → cell ≤ length (cells_of made) → count_by (is_leaf_cell made) (take cell (range_with_len 0 (length (cells_of made)))) ≡ leaves_before made cell
   leaf_cells_before = count_places (is_leaf made) no_cell (cells_of made)
 
   -- each leaf is in the list
   pub length-leaf_cells : length (leaf_cells made) ≡ leaf_count made
   length-leaf_cells =
-      let all = numbers_from 0 (length (cells_of made)) in
+      let all = range_with_len 0 (length (cells_of made)) in
       length-filter (is_leaf_cell made) all
-      ∙ ap (count_by (is_leaf_cell made)) (sym (take_all (length (cells_of made)) all (omega (arith, length-numbers_from 0 (length (cells_of made))))))
+      ∙ ap (count_by (is_leaf_cell made)) (sym (take_all (length (cells_of made)) all (omega (arith, length-range_with_len 0 (length (cells_of made))))))
       ∙ leaf_cells_before (length (cells_of made)) (omega arith) ∙ leaves_before-all made
-
-  -- a leaf's number is below the count
-  pub leaf_below : (leaf cell : ℕ) → IsLeafCell made leaf cell → leaf < leaf_count made
-  leaf_below leaf cell is =
-      let w = is.within in
-      let a = leaves_before-leaf made cell is.within is.stands in
-      let b = leaves_before-le made (cell + 1) (length (cells_of made)) (omega arith) in
-      omega (arith, is.number, leaves_before-all made)
 
   -- the leaf of this number is the cell at its place
   pub get_or-leaf_cells : (leaf cell d : ℕ) → IsLeafCell made leaf cell → get_or (leaf_cells made) leaf d ≡ cell
   get_or-leaf_cells leaf cell d is =
-      let all = numbers_from 0 (length (cells_of made)) in
+      let all = range_with_len 0 (length (cells_of made)) in
       let here = number_at (length (cells_of made)) cell d is.within in
       let w = is.within in
       ap (λ k. get_or (leaf_cells made) k d) (sym is.number ∙ sym (leaf_cells_before cell (omega arith)))
-      ∙ filter_place (is_leaf_cell made) all cell d (omega (arith, length-numbers_from 0 (length (cells_of made)))) (ap (is_leaf_cell made) here ∙ is.stands)
+      ∙ filter_place (is_leaf_cell made) all cell d (omega (arith, length-range_with_len 0 (length (cells_of made)))) (ap (is_leaf_cell made) here ∙ is.stands)
       ∙ here
-
-  pub leaf_cell_at : (leaf cell : ℕ) → IsLeafCell made leaf cell → slice_get (leaf_cells made) leaf ≡ Some cell
-  leaf_cell_at leaf cell is =
-      let l = leaf_below leaf cell is in
-      slice_get-get_or (leaf_cells made) leaf 0 (omega (arith, length-leaf_cells)) ∙ ap Some (get_or-leaf_cells leaf cell 0 is)
 
   -- each number below the count is that of a leaf
   pub leaf_named : (leaf : ℕ) → leaf < leaf_count made → (cell : ℕ) × IsLeafCell made leaf cell
   leaf_named leaf l =
-      let all = numbers_from 0 (length (cells_of made)) in
+      let all = range_with_len 0 (length (cells_of made)) in
       let w = passes_after (is_leaf_cell made) all leaf (omega (arith, length-filter (is_leaf_cell made) all, length-leaf_cells)) in
-      let m : w.place < length (cells_of made) = omega (arith, w.within, length-numbers_from 0 (length (cells_of made))) in (
+      let m : w.place < length (cells_of made) = omega (arith, w.within, length-range_with_len 0 (length (cells_of made))) in (
         w.place,
         record {
           within = m;
@@ -135,19 +121,19 @@ module _ (made : Made) where
 
 module _ (made : Made) (a b from to from' to' : ℕ) (below : AreLeavesBelow made a from to) (below' : AreLeavesBelow made b from' to') where
   -- no leaf lies below two cells of which neither contains the other
-  pub apart_leaves : (Holds (cell_at made a) (cell_at made b) → ⊥) → (Holds (cell_at made b) (cell_at made a) → ⊥) → (leaf : ℕ) → from ≤ leaf → leaf < to → from' ≤ leaf → leaf < to' → ⊥
+  pub apart_leaves : lies_in made a b ≡ false → lies_in made b a ≡ false → (leaf : ℕ) → from ≤ leaf → leaf < to → from' ≤ leaf → leaf < to' → ⊥
   apart_leaves apart turned leaf low high low' high' =
       let within = below.within in
       let w = leaf_named made leaf (omega arith) in
       let p = below.inside leaf w.0 w.1 low high in
       let q = below'.inside leaf w.0 w.1 low' high' in
       elim (cases_lt (cell_at made a).cube.level (cell_at made b).cube.level) [
-        | inl l ↦ apart (CubeContains-sharing _ _ (cell_at made w.0).cube (omega arith) p q)
-        | inr l ↦ turned (CubeContains-sharing _ _ (cell_at made w.0).cube l q p)
+        | inl l ↦ true≢false (sym (CubeContains-sharing (cell_at made a).cube (cell_at made b).cube (cell_at made w.0).cube (omega arith) p q) ∙ apart)
+        | inr l ↦ true≢false (sym (CubeContains-sharing (cell_at made b).cube (cell_at made a).cube (cell_at made w.0).cube l q p) ∙ turned)
       ]
 
   -- so the leaves of the one come before those of the other
-  pub ranges_apart : (Holds (cell_at made a) (cell_at made b) → ⊥) → (Holds (cell_at made b) (cell_at made a) → ⊥) → (to ≤ from') ⊎ (to' ≤ from)
+  pub ranges_apart : lies_in made a b ≡ false → lies_in made b a ≡ false → (to ≤ from') ⊎ (to' ≤ from)
   ranges_apart apart turned =
       let some = below.some in
       let some' = below'.some in
@@ -163,7 +149,7 @@ module _ (made : Made) (a b from to from' to' : ℕ) (below : AreLeavesBelow mad
       ]
 
   -- the leaves below an inner cell lie below the outer one
-  pub nested_ranges : Holds (cell_at made a) (cell_at made b) → (from ≤ from') × (to' ≤ to)
+  pub nested_ranges : lies_in made a b ≡ true → (from ≤ from') × (to' ≤ to)
   nested_ranges h = ((outer from' (omega arith) some').0, let w = (outer (to' - 1) (omega arith) (omega arith)).1 in omega arith)
     where
       some' : from' < to'

@@ -1,19 +1,20 @@
 -- How many leaves come before a cell, and which come below it.
-use Rattle.std.proofs.Common.{◌≡◌, ℕ, ◌+◌, ◌-◌, ◌<◌, ◌≤◌, Bool, true, false, cond, List, [], ◌∷◌, ◌++◌, length, length-append, take, get_or, sym, ap, ◌∙◌, subst, inl, inr, count_by, arith}
-use Rattle.std.proofs.lemmas.Bool.{cases_lt}
+use Rattle.std.proofs.Common.{◌≡◌, ℕ, zero, suc, ◌+◌, ◌-◌, ◌<◌, ◌≤◌, Bool, true, false, cond, List, [], ◌∷◌, ◌++◌, length, length-append, take, get_or, sym, ap, ◌∙◌, subst, inl, inr, count_by, arith}
+use Rattle.std.proofs.lemmas.Bool.{cases_Bool, cases_lt}
 use Rattle.std.proofs.lemmas.List.{take-take, take_all, take_more, append-nil, length_push}
 use Rattle.std.proofs.lemmas.List.Concat.{flat_map-append}
 use Rattle.std.proofs.lemmas.List.Folds.{length-flat_map-take}
 use Rattle.std.proofs.lemmas.List.Sums.{sum_by-take-le, count_by_more_yes, count_by_more_no}
 use Rattle.cell_tree.specs.Laws.{CanBeMade}
-use Rattle.cell_tree.specs.Tree.{Made, cells_of, cell_at, no_cell, is_leaf, leaf_count, leaves_before, IsLeafCell, AreLeavesBelow}
+use Rattle.cell_tree.specs.Tree.{Made, cells_of, cell_at, no_cell, is_leaf, leaf_count, leaves_before, IsLeafCell, AreLeavesBelow, lies_in}
 use Rattle.cell_tree.specs.declared.leaves.Leaf.{Leaf}
-use Rattle.cell_tree.specs.Nodes.{leaf_members, members_in}
-use Rattle.cell_tree.specs.Parts.{IsLeafAt}
+use Rattle.cell_tree.specs.inner.Nodes.{leaf_members, members_in}
+use Rattle.cell_tree.specs.inner.Parts.{IsLeafAt}
 use Rattle.cell_tree.proofs.Nest.{indexed_push}
+use Rattle.cell_tree.proofs.Members.{sound_at}
 use Rattle.cell_tree.proofs.Orders.{length-order}
-use Rattle.cell_tree.proofs.Shape.{Holds}
 use Rattle.cell_tree.proofs.Family.{size_at, size_some, run_within, run_inside, run_outside, last_leaf}
+use Rattle.sph_num.specs.Ranges.{most_particles}
 
 -- a longer front has no fewer that pass
 pub count_by-take : {X : Type 0} (p : X → Bool) (xs : List X) (i j : ℕ) → i ≤ j → count_by p (take i xs) ≤ count_by p (take j xs)
@@ -65,7 +66,7 @@ module _ (made : Made) where
             | inr m ↦ m
           ]
 
-      inside : (leaf at : ℕ) → IsLeafCell made leaf at → leaves_before made cell ≤ leaf → leaf < leaves_before made (cell + size_at made cell) → Holds (cell_at made cell) (cell_at made at)
+      inside : (leaf at : ℕ) → IsLeafCell made leaf at → leaves_before made cell ≤ leaf → leaf < leaves_before made (cell + size_at made cell) → lies_in made cell at ≡ true
       inside leaf at h low high =
           let n = h.number in
           elim (cases_lt at (cell + size_at made cell)) [
@@ -73,7 +74,7 @@ module _ (made : Made) where
             | inr m ↦ let b = leaves_before-le (cell + size_at made cell) at m in absurd (omega arith)
           ]
 
-      outside : (leaf at : ℕ) → IsLeafCell made leaf at → Holds (cell_at made cell) (cell_at made at) → (leaves_before made cell ≤ leaf) × (leaf < leaves_before made (cell + size_at made cell))
+      outside : (leaf at : ℕ) → IsLeafCell made leaf at → lies_in made cell at ≡ true → (leaves_before made cell ≤ leaf) × (leaf < leaves_before made (cell + size_at made cell))
       outside leaf at h r =
           let w = run_outside made cell at l h.within r in
           let n = h.number in
@@ -90,6 +91,31 @@ members_more made cell l =
     ∙ ap length (flat_map-append (leaf_members made) (take cell (cells_of made)) (cell_at made cell ∷ []))
     ∙ length-append (members_in made (take cell (cells_of made))) (leaf_members made (cell_at made cell) ++ [])
     ∙ ap (λ xs. length (members_in made (take cell (cells_of made))) + length xs) (append-nil (leaf_members made (cell_at made cell)))
+
+module _ (made : Made) (can : CanBeMade made) where
+  -- no leaf is empty, so the leaves before a cell have as many members at least
+  leaves_before-members : (k : ℕ) → k ≤ length (cells_of made) → leaves_before made k ≤ length (members_in made (take k (cells_of made)))
+  leaves_before-members zero l = omega arith
+  leaves_before-members (suc k) l =
+      let e : suc k ≡ k + 1 = omega arith in
+      let below = leaves_before-members k (omega arith) in
+      let low : k < length (cells_of made) = omega arith in
+      let more = members_more made k low in
+      elim (cases_Bool (is_leaf made (cell_at made k))) [
+        | inl t ↦
+            let here : leaf_members made (cell_at made k) ≡ (cell_at made k).members = ap (λ b. cond b (cell_at made k).members []) t in
+            let some = (sound_at made can k low).some in
+            let step = leaves_before-leaf made k low t in
+            rw e (omega (arith, ap length here))
+        | inr f ↦ let step = leaves_before-other made k low f in rw e (omega arith)
+      ]
+
+  -- there are no more leaves than points
+  pub leaves_few : leaf_count made ≤ length made.points
+  leaves_few =
+      let all = leaves_before-members (length (cells_of made)) (omega arith) in
+      let whole = ap (λ cells. length (members_in made cells)) (take_all (length (cells_of made)) (cells_of made) (omega arith)) in
+      omega (arith, leaves_before-all made, length-order made)
 
 -- the leaves among the cells before this one, and where the next leaf's members start
 pub record AreLeavesTo (made : Made) (cell : ℕ) (leaves : List Leaf) (start : ℕ) : Type 0 where
@@ -123,7 +149,7 @@ AreLeavesTo-other made cell leaves leaves' start start' a l h e s =
 
 -- the members of the leaves up to a leaf are no more than the points
 pub start_fits : (made : Made) → CanBeMade made → (cell : ℕ) → cell < length (cells_of made) → is_leaf made (cell_at made cell) ≡ true
-    → length (members_in made (take cell (cells_of made))) + length (cell_at made cell).members ≤ 32768
+    → length (members_in made (take cell (cells_of made))) + length (cell_at made cell).members ≤ most_particles
 start_fits made can cell l h =
     let m : leaf_members made (cell_at made cell) ≡ (cell_at made cell).members = ap (λ b. cond b (cell_at made cell).members []) h in
     let b = length-flat_map-take (leaf_members made) (cells_of made) cell no_cell l in

@@ -1,6 +1,7 @@
+pub mod Above
+pub mod Below
 pub mod Bounds
 pub mod Counts
-pub mod Cubes
 pub mod DueLeaves
 pub mod Family
 pub mod FoundChildren
@@ -13,7 +14,6 @@ pub mod OctantLists
 pub mod OnePlace
 pub mod Orders
 pub mod Partition
-pub mod Rising
 pub mod Shape
 pub mod SharedMembers
 pub mod TreeLists

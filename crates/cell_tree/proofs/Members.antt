@@ -1,77 +1,34 @@
 -- Which points the cells of a tree have as their members.
-use Rattle.std.proofs.Common.{◌≡◌, ℕ, zero, suc, ◌+◌, ◌/◌, ◌^◌, ◌<◌, ◌≤◌, true, false, eqb, List, [], ◌∷◌, length, get_or, slice_index, slice_index_or, refl, sym, ap, ◌∙◌, subst, inl, inr, length-append, arith}
-use Rattle.std.specs.List.{Contains}
-use Rattle.std.specs.List.Sorted.{IsStrictlyIncreasing}
+use Rattle.std.proofs.Common.{◌≡◌, ℕ, zero, suc, ◌+◌, ◌/◌, ◌^◌, ◌<◌, ◌≤◌, true, false, eqb, List, ◌∷◌, length, get_or, slice_index, slice_index_or, refl, sym, ap, ◌∙◌, subst, inl, inr, length-append, arith, []}
+use Rattle.std.specs.List.{Contains, range_with_len}
 use Rattle.std.proofs.lemmas.Bool.{cases_eq, eqb-true, eq-eqb, ne_eqb}
 use Rattle.std.proofs.lemmas.List.{get_or_append_left, get_or-append-add}
-use Rattle.sph_num.proofs.Members.{cases_Contains-cons, Contains-nil, Contains-later, Contains-filter, Contains-from_filter, passes_from_filter}
+use Rattle.std.proofs.lemmas.List.FromFn.{length-range_with_len}
+use Rattle.lists.proofs.Ranges.{below_from_numbers}
+use Rattle.lists.proofs.Elements.{Contains-filter, Contains-from_filter, passes_from_filter}
 use Rattle.cell_geom.specs.Cube.{cube_holds, child_of}
-use Rattle.cell_geom.proofs.Gaps.{coordinate-lt}
-use Rattle.cell_geom.proofs.Nesting.{each_axis, cube_holds-child_of}
-use Rattle.cell_tree.specs.Tree.{Made, Cell, child_cell, cells_of, cell_at, root_cube, numbers_from, no_cell, is_leaf}
+use Rattle.sph_num.proofs.Ring.{coordinate-lt}
+use Rattle.cell_geom.proofs.Nesting.{each_axis, cube_holds-child_of, octant-below, IsCube-child}
+use Rattle.cell_tree.specs.Tree.{Made, Cell, child_cell, cells_of, cell_at, root_cube, no_cell, is_leaf}
 use Rattle.cell_tree.specs.Laws.{CanBeMade}
-use Rattle.cell_tree.specs.Nodes.{IsSound}
-use Rattle.cell_tree.specs.Under.{cells_under, cells_in, cells_of_octants}
-use Rattle.cell_tree.proofs.Cubes.{octant-below, IsCube-child}
+use Rattle.cell_tree.specs.inner.Nodes.{IsSound}
+use Rattle.cell_tree.specs.inner.Under.{cells_under, cells_in, cells_of_octants}
 use Rattle.cell_tree.proofs.Counts.{octant_in}
 use Rattle.cell_tree.proofs.Shape.{at, each_below}
 use Rattle.cell_tree.proofs.Under.{IsSplit, cells_under_induction}
 
--- how many numbers there are
-pub length-numbers_from : (first n : ℕ) → length (numbers_from first n) ≡ n
-length-numbers_from first zero = refl
-length-numbers_from first (suc n) = ap suc (length-numbers_from (suc first) n)
-
--- the number at a place
-pub get_or-numbers_from : (first n k d : ℕ) → k < n → get_or (numbers_from first n) k d ≡ first + k
-get_or-numbers_from first zero k d l = absurd (omega arith)
-get_or-numbers_from first (suc n) zero d l = omega arith
-get_or-numbers_from first (suc n) (suc k) d l = get_or-numbers_from (suc first) n k d (omega arith) ∙ omega arith
-
--- the number at a place of those from 0 on
-pub number_at : (n k d : ℕ) → k < n → get_or (numbers_from 0 n) k d ≡ k
-number_at n k d l = get_or-numbers_from 0 n k d l ∙ omega arith
-
--- numbers from 0 on rise
-pub numbers_rise : (n : ℕ) → IsStrictlyIncreasing (numbers_from 0 n)
-numbers_rise n k l =
-    let long = length-numbers_from 0 n in
-    omega (arith, number_at n k 0 (omega arith), number_at n (k + 1) 0 (omega arith))
-
--- the numbers from the first on are no less, and below their end
-pub Contains-numbers_from-le : (first n i : ℕ) → Contains (numbers_from first n) i → (first ≤ i) × (i < first + n)
-Contains-numbers_from-le first zero i c = absurd (Contains-nil i c)
-Contains-numbers_from-le first (suc n) i c =
-    cases_Contains-cons ((first ≤ i) × (i < first + suc n)) first (numbers_from (suc first) n) i (λ e. (omega arith, omega arith))
-    (λ w. let b = Contains-numbers_from-le (suc first) n i w in (omega (arith, b.0), omega (arith, b.1))) c
-
--- the numbers from 0 on are below their count
-pub below_from_numbers : (n i : ℕ) → Contains (numbers_from 0 n) i → i < n
-below_from_numbers n i c = let b = Contains-numbers_from-le 0 n i c in omega (arith, b.1)
-
--- each number between the ends is there
-pub Contains-numbers_from : (first n i : ℕ) → first ≤ i → i < first + n → Contains (numbers_from first n) i
-Contains-numbers_from first zero i low high = absurd (omega arith)
-Contains-numbers_from first (suc n) i low high =
-    elim (cases_eq first i) [
-      | inl e ↦ (0, omega arith, e)
-      | inr ne ↦ Contains-later first (numbers_from (suc first) n) i (Contains-numbers_from (suc first) n i (omega arith) (omega arith))
-    ]
-
--- each number below the count is there
-pub Contains-numbers : (n i : ℕ) → i < n → Contains (numbers_from 0 n) i
-Contains-numbers n i l = Contains-numbers_from 0 n i (omega arith) (omega arith)
-
 -- an octant of a sound cell is sound
 pub IsSound-child : (made : Made) (cell : Cell) (octant : ℕ) → IsSound made cell → IsSplit made cell → octant < 8 → 0 < length (child_cell made.points cell octant).members → IsSound made (child_cell made.points cell octant)
 IsSound-child made cell octant s split l some = record {
-  in_box = IsCube-child cell.cube octant split.level s.in_box;
   some = some;
-  members = λ index c.
-      let p = λ (i : ℕ). eqb (octant_in made cell i) octant in
-      let w = s.members index (Contains-from_filter p cell.members index c) in
-      let e = eqb-true (octant_in made cell index) octant (passes_from_filter p cell.members index c) in
-      (w.0, subst (λ o. cube_holds (child_of cell.cube o) (slice_index_or made.points index [])) e (cube_holds-child_of cell.cube (slice_index_or made.points index []) split.level w.1));
+  held = record {
+    in_box = IsCube-child cell.cube octant split.level s.held.in_box;
+    each = λ index c.
+        let p = λ (i : ℕ). eqb (octant_in made cell i) octant in
+        let w = s.held.each index (Contains-from_filter p cell.members index c) in
+        let e = eqb-true (octant_in made cell index) octant (passes_from_filter p cell.members index c) in
+        (w.0, subst (λ o. cube_holds (child_of cell.cube o) (slice_index_or made.points index [])) e (cube_holds-child_of cell.cube (slice_index_or made.points index []) split.level w.1));
+  };
 }
 
 -- the cells below a sound cell are sound
@@ -80,7 +37,7 @@ sound_below made = each_below made (IsSound made) (IsSound-child made)
 
 -- the cell of the whole box
 abbrev pub root : Made → Cell
-root made = record { cube = root_cube; members = numbers_from 0 (length made.points) }
+root made = record { cube = root_cube; members = range_with_len 0 (length made.points) }
 
 -- a coordinate of the box lies in its one cube
 place_at_zero : (x : ℕ) → x < 2 ^ 20 → x / 2 ^ 20 ≡ 0
@@ -89,12 +46,14 @@ place_at_zero x h = omega arith
 -- the whole box is sound
 pub IsSound-root : (made : Made) → CanBeMade made → IsSound made (root made)
 IsSound-root made can = record {
-  in_box = record { level = omega arith; three = refl; within = zeros };
-  some = let l = can.some in omega (arith, length-numbers_from 0 (length made.points));
-  members = λ index c.
-      let l = below_from_numbers (length made.points) index c in
-      let place = can.places index l in
-      (l, λ axis h. place_at_zero _ (coordinate-lt (slice_index_or made.points index []) axis place h) ∙ sym (zero_at axis h));
+  some = let l = can.some in omega (arith, length-range_with_len 0 (length made.points));
+  held = record {
+    in_box = record { level = omega arith; three = refl; within = zeros };
+    each = λ index c.
+        let l = below_from_numbers (length made.points) index c in
+        let place = can.places index l in
+        (l, λ axis h. place_at_zero _ (coordinate-lt (slice_index_or made.points index []) axis place h) ∙ sym (zero_at axis h));
+  };
 }
   where
     zero_at : (axis : ℕ) → axis < 3 → slice_index (0 ∷ 0 ∷ 0 ∷ []) axis ≡ 0
@@ -119,14 +78,14 @@ octants_place made cell first (suc n) octant low high some i l =
           let there : cells_in made cell first ≡ cells_under made (child_cell made.points cell octant) = ap (cells_in made cell) (sym e) ∙ here in
           let l' : i < length (cells_in made cell first) = rw there l in (
             i,
-            omega (arith, length-append (cells_in made cell first) (cells_of_octants made cell (suc first) n)),
-            get_or_append_left (cells_in made cell first) (cells_of_octants made cell (suc first) n) no_cell i l' ∙ ap (λ cells. at cells i) there,
+            omega (arith, length-append (cells_in made cell first) (cells_of_octants made cell (first + 1) n)),
+            get_or_append_left (cells_in made cell first) (cells_of_octants made cell (first + 1) n) no_cell i l' ∙ ap (λ cells. at cells i) there,
           )
       | inr ne ↦
-          let w = octants_place made cell (suc first) n octant (omega arith) (omega arith) some i l in (
+          let w = octants_place made cell (first + 1) n octant (omega arith) (omega arith) some i l in (
             length (cells_in made cell first) + w.0,
-            (let q = w.1 in omega (arith, length-append (cells_in made cell first) (cells_of_octants made cell (suc first) n))),
-            get_or-append-add (cells_in made cell first) (cells_of_octants made cell (suc first) n) w.0 no_cell ∙ w.2,
+            (let q = w.1 in omega (arith, length-append (cells_in made cell first) (cells_of_octants made cell (first + 1) n))),
+            get_or-append-add (cells_in made cell first) (cells_of_octants made cell (first + 1) n) w.0 no_cell ∙ w.2,
           )
     ]
 

@@ -1,15 +1,14 @@
 -- The members of a cell in one octant after another.
-use Rattle.std.proofs.Common.{◌≡◌, ℕ, zero, suc, ◌+◌, ◌<◌, cond, eqb, List, [], ◌∷◌, ◌++◌, length, get_or, take, set, inl, inr, sym, ap, ◌∙◌, append_assoc, add-one, arith}
-use Rattle.std.specs.List.{flat_map}
+use Rattle.std.proofs.Common.{◌≡◌, ℕ, ◌+◌, ◌<◌, cond, eqb, List, ◌∷◌, ◌++◌, length, get_or, take, set, inl, inr, sym, ap, ◌∙◌, append_assoc, arith, []}
+use Rattle.std.specs.List.{range_with_len}
 use Rattle.std.proofs.lemmas.Bool.{eq-eqb, ne_eqb, cases_eq}
 use Rattle.std.proofs.lemmas.List.{append-nil, get_or-set_same, get_or-set_other}
 use Rattle.std.proofs.lemmas.List.Elements.{filter_more}
-use Rattle.std.proofs.lemmas.List.Concat.{flat_map-append}
+use Rattle.lists.proofs.Ranges.{range_push, flat_map_range_more}
 use Rattle.cell_geom.specs.Cube.{octant_of}
-use Rattle.cell_tree.specs.Tree.{numbers_from}
-use Rattle.cell_tree.specs.Nodes.{in_octant, in_octants}
+use Rattle.cell_tree.specs.inner.Nodes.{in_octant, in_octants}
 use Rattle.cell_tree.proofs.Counts.{length-sorted_by}
-use Rattle.cell_tree.proofs.Cubes.{octant-below}
+use Rattle.cell_geom.proofs.Nesting.{octant-below}
 
 -- one member more, which lies in the octant or not
 pub in_octant_more_yes : (points : List (List ℕ)) (level : ℕ) (members : List ℕ) (octant i : ℕ) → i < length members → octant_of level (get_or points (get_or members i 0) []) ≡ octant
@@ -25,19 +24,9 @@ in_octant_more_no points level members octant i l e =
     let t = ne_eqb (octant_of level (get_or points (get_or members i 0) [])) octant e in
     filter_more (λ k. eqb (octant_of level (get_or points k [])) octant) members i 0 l ∙ ap (λ b. in_octant points level (take i members) octant ++ cond b (get_or members i 0 ∷ []) []) t ∙ append-nil _
 
--- one number more at the end
-pub numbers_from_push : (first n : ℕ) → numbers_from first (n + 1) ≡ numbers_from first n ++ (first + n) ∷ []
-numbers_from_push first zero = ap (λ k. k ∷ []) (omega arith)
-numbers_from_push first (suc n) = rw add-one (ap (λ ks. first ∷ ks) (let e = numbers_from_push (suc first) n in let f : suc first + n ≡ first + suc n = omega arith in rw (add-one, f) at e))
-
--- one number more
-pub flat_map_numbers_more : {A : Type 0} (f : ℕ → List A) (first n : ℕ) → flat_map f (numbers_from first (n + 1)) ≡ flat_map f (numbers_from first n) ++ f (first + n)
-flat_map_numbers_more f first n =
-    ap (flat_map f) (numbers_from_push first n) ∙ flat_map-append f (numbers_from first n) ((first + n) ∷ []) ∙ ap (λ ys. flat_map f (numbers_from first n) ++ ys) (append-nil (f (first + n)))
-
 -- one octant more
 pub in_octants_more : (points : List (List ℕ)) (level : ℕ) (members : List ℕ) (n : ℕ) → in_octants points level members 0 (n + 1) ≡ in_octants points level members 0 n ++ in_octant points level members n
-in_octants_more points level members n = flat_map_numbers_more (in_octant points level members) 0 n ∙ ap (λ k. in_octants points level members 0 n ++ in_octant points level members k) (omega arith)
+in_octants_more points level members n = flat_map_range_more (in_octant points level members) 0 n ∙ ap (λ k. in_octants points level members 0 n ++ in_octant points level members k) (omega arith)
 
 -- each member lies in one octant
 pub length-in_octants : (points : List (List ℕ)) (level : ℕ) (members : List ℕ) → length (in_octants points level members 0 8) ≡ length members
@@ -61,5 +50,5 @@ ends_more points level members ends n end l e h k below =
     ]
 
 -- the numbers below one more
-pub numbers_more : (n : ℕ) → numbers_from 0 (n + 1) ≡ numbers_from 0 n ++ n ∷ []
-numbers_more n = numbers_from_push 0 n ∙ ap (λ k. numbers_from 0 n ++ k ∷ []) (omega arith)
+pub numbers_more : (n : ℕ) → range_with_len 0 (n + 1) ≡ range_with_len 0 n ++ n ∷ []
+numbers_more n = range_push 0 n ∙ ap (λ k. range_with_len 0 n ++ k ∷ []) (omega arith)

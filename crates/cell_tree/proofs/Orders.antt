@@ -5,14 +5,15 @@ use Rattle.std.proofs.lemmas.Bool.{cases_Bool, eqb-true}
 use Rattle.std.proofs.lemmas.List.{append-nil, take-append-drop, take_at, drop_at, drop_more, get_or-map, length-map}
 use Rattle.std.proofs.lemmas.List.Folds.{length-flat_map-take}
 use Rattle.std.proofs.lemmas.List.Concat.{flat_map-append}
-use Rattle.cell_tree.specs.Laws.{CanBeMade}
+use Rattle.std.proofs.lemmas.List.FromFn.{length-range_with_len}
+use Rattle.cell_tree.specs.Laws.{CanBeMade, most_cells}
 use Rattle.cell_tree.specs.declared.node.Node.{Node}
-use Rattle.cell_tree.specs.Parts.{IsGrown}
-use Rattle.cell_tree.specs.Nodes.{node_of, leaf_members, members_in, in_octant, in_octants}
+use Rattle.cell_tree.specs.inner.Parts.{IsGrown}
+use Rattle.cell_tree.specs.inner.Nodes.{node_of, leaf_members, members_in, in_octant, in_octants}
 use Rattle.cell_tree.specs.Tree.{Made, Cell, child_cell, cells_of, cell_at, no_cell, is_leaf}
-use Rattle.cell_tree.specs.Under.{cells_under, cells_in, cells_of_octants}
+use Rattle.cell_tree.specs.inner.Under.{cells_under, cells_in, cells_of_octants}
 use Rattle.cell_tree.proofs.Growth.{size_fits}
-use Rattle.cell_tree.proofs.Members.{root, IsSound-root, length-numbers_from}
+use Rattle.cell_tree.proofs.Members.{root, IsSound-root}
 use Rattle.cell_tree.proofs.OctantLists.{length-in_octants}
 use Rattle.cell_tree.proofs.Shape.{cells_under-first}
 use Rattle.cell_tree.proofs.Under.{cells_under_induction}
@@ -43,11 +44,11 @@ octants-members : (made : Made) (cell : Cell) (first n : ℕ)
 octants-members made cell first zero h = refl
 octants-members made cell first (suc n) h =
     let a = cells_in-members made cell first (h first) in
-    let b = octants-members made cell (suc first) n h in
-    let e = ap length (flat_map-append (leaf_members made) (cells_in made cell first) (cells_of_octants made cell (suc first) n)) in
-    let f = length-append (members_in made (cells_in made cell first)) (members_in made (cells_of_octants made cell (suc first) n)) in
-    let g = length-append (in_octant made.points cell.cube.level cell.members first) (in_octants made.points cell.cube.level cell.members (suc first) n) in
-    e ∙ f ∙ (let s : length (members_in made (cells_in made cell first)) + length (members_in made (cells_of_octants made cell (suc first) n)) ≡ length (in_octant made.points cell.cube.level cell.members first) + length (in_octants made.points cell.cube.level cell.members (suc first) n) = omega arith in s) ∙ sym g
+    let b = octants-members made cell (first + 1) n h in
+    let e = ap length (flat_map-append (leaf_members made) (cells_in made cell first) (cells_of_octants made cell (first + 1) n)) in
+    let f = length-append (members_in made (cells_in made cell first)) (members_in made (cells_of_octants made cell (first + 1) n)) in
+    let g = length-append (in_octant made.points cell.cube.level cell.members first) (in_octants made.points cell.cube.level cell.members (first + 1) n) in
+    e ∙ f ∙ (let s : length (members_in made (cells_in made cell first)) + length (members_in made (cells_of_octants made cell (first + 1) n)) ≡ length (in_octant made.points cell.cube.level cell.members first) + length (in_octants made.points cell.cube.level cell.members (first + 1) n) = omega arith in s) ∙ sym g
 
 -- the leaves below a cell have as many members as the cell
 pub length-members_in : (made : Made) (cell : Cell) → length (members_in made (cells_under made cell)) ≡ length cell.members
@@ -58,7 +59,7 @@ length-members_in made =
 
 -- the order has each point once
 pub length-order : (made : Made) → length (members_in made (cells_of made)) ≡ length made.points
-length-order made = length-members_in made (root made) ∙ length-numbers_from 0 (length made.points)
+length-order made = length-members_in made (root made) ∙ length-range_with_len 0 (length made.points)
 
 -- the members of a leaf stand in the order after those of the leaves before it
 pub leaf_run : (made : Made) (cell : ℕ) → cell < length (cells_of made) → is_leaf made (cell_at made cell) ≡ true
@@ -69,8 +70,8 @@ leaf_run made cell l h =
     ∙ flat_map_run (leaf_members made) (cells_of made) cell no_cell l ∙ e
 
 -- how many cells a tree has at most
-pub cells_few : (made : Made) → CanBeMade made → length (cells_of made) ≤ 360448
-cells_few made can = size_fits made (root made) (IsSound-root made can) (let m = can.not_too_many in omega (arith, length-numbers_from 0 (length made.points)))
+pub cells_few : (made : Made) → CanBeMade made → length (cells_of made) ≤ most_cells
+cells_few made can = size_fits made (root made) (IsSound-root made can) (let m = can.not_too_many in omega (arith, length-range_with_len 0 (length made.points)))
 
 -- a tree has a cell
 pub cells_some : (made : Made) → 0 < length (cells_of made)

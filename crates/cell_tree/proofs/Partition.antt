@@ -2,11 +2,12 @@
 use Rattle.std.proofs.Common.{◌≡◌, ℕ, ◌<◌, ◌≤◌, true, [], length, slice_index_or, refl, sym, ap, ◌∙◌, inl, inr, arith}
 use Rattle.std.specs.List.{Contains}
 use Rattle.std.proofs.lemmas.Bool.{cases_lt}
-use Rattle.cell_tree.specs.Tree.{Made, Cell, cells_of, cell_at, is_leaf, leaves_before, IsParent}
+use Rattle.lists.proofs.Ranges.{Contains-numbers}
+use Rattle.cell_tree.specs.Tree.{Made, Cell, cells_of, cell_at, is_leaf, leaves_before, IsParent, lies_in}
 use Rattle.cell_tree.specs.Laws.{CanBeMade, HasMember, IsPartition}
-use Rattle.cell_tree.proofs.Cubes.{CubeContains-holding}
-use Rattle.cell_tree.proofs.Members.{root, sound_at, members_in_leaves, Contains-numbers}
-use Rattle.cell_tree.proofs.Shape.{size_in, Holds, NestedCells, cells_under-nested, cells_under-parents}
+use Rattle.cell_geom.proofs.Nesting.{CubeContains-holding}
+use Rattle.cell_tree.proofs.Members.{root, sound_at, members_in_leaves}
+use Rattle.cell_tree.proofs.Shape.{size_in, NestedCells, cells_under-nested, cells_under-parents}
 use Rattle.cell_tree.proofs.Under.{cells_under-leaf}
 
 -- the cells of a tree nest
@@ -17,14 +18,14 @@ tree_nests made = cells_under-nested made (root made)
 pub tree_parents : (made : Made) (cell : ℕ) → 0 < cell → cell < length (cells_of made) → (parent : ℕ) × IsParent made parent cell
 tree_parents made cell low l =
     let w = cells_under-parents made (root made) cell low l in
-    (w.0, record { before = w.1.before; within = l; level = w.1.level; contains = w.1.contains })
+    (w.0, record { before = w.1.before; within = l; octant = w.1.octant })
 
 -- a leaf is a subtree of one cell
 pub size_of-leaf : (made : Made) (cell : Cell) → is_leaf made cell ≡ true → size_in made cell ≡ 1
 size_of-leaf made cell h = ap length (cells_under-leaf made cell h)
 
 -- a leaf contains no cell but itself
-pub leaf_alone : (made : Made) (a b : ℕ) → a < length (cells_of made) → b < length (cells_of made) → is_leaf made (cell_at made a) ≡ true → Holds (cell_at made a) (cell_at made b) → a ≡ b
+pub leaf_alone : (made : Made) (a b : ℕ) → a < length (cells_of made) → b < length (cells_of made) → is_leaf made (cell_at made a) ≡ true → lies_in made a b ≡ true → a ≡ b
 leaf_alone made a b l m h r =
     let w = (tree_nests made).outside a b l m r in
     let e = size_of-leaf made (cell_at made a) h in
@@ -38,7 +39,7 @@ same_leaf_ordered made can a b index l m h p q low =
     let s = sound_at made can a l in
     let t = sound_at made can b m in
     leaf_alone made a b l m h
-    (CubeContains-holding (cell_at made a).cube (cell_at made b).cube (slice_index_or made.points index []) low (t.in_box.level) (s.members index p).1 (t.members index q).1)
+    (CubeContains-holding (cell_at made a).cube (cell_at made b).cube (slice_index_or made.points index []) low t.held.in_box.level (s.held.each index p).1 (t.held.each index q).1)
 
 -- leaves that share a member are one
 pub same_leaf : (made : Made) → CanBeMade made → (a b leaf leaf' index : ℕ) → HasMember made leaf a index → HasMember made leaf' b index → a ≡ b
@@ -57,6 +58,6 @@ IsPartition-from_CanBeMade made can = record {
       let w = members_in_leaves made (root made) index (Contains-numbers (length made.points) index l) in
       (leaves_before made w.place, w.place, record { is_leaf = record { within = w.within; stands = w.leaf; number = refl }; member = w.member });
   just_one = λ index leaf leaf' cell cell' p q. sym p.is_leaf.number ∙ ap (leaves_before made) (same_leaf made can cell cell' leaf leaf' index p q) ∙ q.is_leaf.number;
-  cubes = λ cell l. (sound_at made can cell l).in_box;
-  holds = λ cell index l c. (sound_at made can cell l).members index c;
+  cubes = λ cell l. (sound_at made can cell l).held.in_box;
+  holds = λ cell index l c. (sound_at made can cell l).held.each index c;
 }

@@ -2,11 +2,10 @@
 use Rattle.std.proofs.Common.{◌≡◌, ℕ, zero, suc, ◌+◌, ◌<◌, ◌≤◌, true, false, cond, eqb, List, [], ◌∷◌, ◌++◌, length, get_or, refl, sym, ap, subst, ◌⊎◌, inl, inr, length-append, arith}
 use Rattle.std.proofs.lemmas.List.{get_or_append_left, get_or-append-add}
 use Rattle.std.proofs.lemmas.Bool.{cases_Bool, eqb-false}
-use Rattle.cell_geom.specs.Cube.{child_of, CubeContains}
-use Rattle.cell_geom.proofs.Nesting.{CubeContains-child_of}
+use Rattle.cell_geom.specs.Cube.{child_of, CubeContains, is_octant_of}
+use Rattle.cell_geom.proofs.Nesting.{CubeContains-child_of, CubeContains-self, CubeContains-trans, child_apart, level_within, octant_from_within}
 use Rattle.cell_tree.specs.Tree.{Made, Cell, child_cell, no_cell}
-use Rattle.cell_tree.specs.Under.{cells_under, cells_in, cells_of_octants}
-use Rattle.cell_tree.proofs.Cubes.{CubeContains-self, CubeContains-trans, child_apart}
+use Rattle.cell_tree.specs.inner.Under.{cells_under, cells_in, cells_of_octants}
 use Rattle.cell_tree.proofs.Nest.{IsNested, IsNested-nil, IsNested-cons, IsNested-append, each_of_both, cases_place}
 use Rattle.cell_tree.proofs.Under.{IsSplit, IsSplit-from_test, cells_under-leaf, cells_under-split, cells_under_induction}
 
@@ -31,9 +30,9 @@ pub octants_each : (made : Made) (cell : Cell) (Q : Cell → Type 0) (first n : 
     → (i : ℕ) → i < length (cells_of_octants made cell first n) → Q (at (cells_of_octants made cell first n) i)
 octants_each made cell Q first zero h = λ i l. absurd (omega arith)
 octants_each made cell Q first (suc n) h =
-    each_of_both Q no_cell (cells_in made cell first) (cells_of_octants made cell (suc first) n)
+    each_of_both Q no_cell (cells_in made cell first) (cells_of_octants made cell (first + 1) n)
     (cells_in-each made cell first Q (h first (omega arith) (omega arith)))
-    (octants_each made cell Q (suc first) n (λ octant low high. h octant (omega arith) (omega arith)))
+    (octants_each made cell Q (first + 1) n (λ octant low high. h octant (omega arith) (omega arith)))
 
 -- what the octants of a cell take from it holds of all cells below
 pub each_below : (made : Made) (Q : Cell → Type 0)
@@ -97,21 +96,23 @@ octants-nested : (made : Made) (cell : Cell) (first n : ℕ) → first + n ≤ 8
     → NestedCells made (cells_of_octants made cell first n)
 octants-nested made cell first zero l h = IsNested-nil no_cell (size_in made) Holds
 octants-nested made cell first (suc n) l h =
-    IsNested-append no_cell (size_in made) Holds (cells_in made cell first) (cells_of_octants made cell (suc first) n)
-    (cells_in-nested made cell first (h first)) (octants-nested made cell (suc first) n (omega arith) h) apart turned
+    IsNested-append no_cell (size_in made) Holds (cells_in made cell first) (cells_of_octants made cell (first + 1) n)
+    (cells_in-nested made cell first (h first)) (octants-nested made cell (first + 1) n (omega arith) h) apart turned
   where
-    other : (c : Cell) → CubeContains (child_of cell.cube first) c.cube → IsInOctants cell (suc first) n c → ⊥
+    other : (c : Cell) → CubeContains (child_of cell.cube first) c.cube → IsInOctants cell (first + 1) n c → ⊥
     other c p w = let e = child_apart cell.cube c.cube first w.0 (omega arith) (omega arith) p w.3 in let lo = w.1 in omega arith
 
-    apart : (i j : ℕ) → i < length (cells_in made cell first) → j < length (cells_of_octants made cell (suc first) n)
-        → Holds (at (cells_in made cell first) i) (at (cells_of_octants made cell (suc first) n) j) → ⊥
-    apart i j p q r = other (at (cells_of_octants made cell (suc first) n) j) (CubeContains-trans _ _ _ (octant_lie made cell first i p) r) (octants_lie made cell (suc first) n j q)
+    apart : (i j : ℕ) → i < length (cells_in made cell first) → j < length (cells_of_octants made cell (first + 1) n)
+        → Holds (at (cells_in made cell first) i) (at (cells_of_octants made cell (first + 1) n) j) → ⊥
+    apart i j p q r = let a = at (cells_in made cell first) i in let b = at (cells_of_octants made cell (first + 1) n) j in other b (CubeContains-trans (child_of cell.cube first) a.cube b.cube (octant_lie made cell first i p) r) (octants_lie made cell (first + 1) n j q)
 
-    turned : (i j : ℕ) → i < length (cells_in made cell first) → j < length (cells_of_octants made cell (suc first) n)
-        → Holds (at (cells_of_octants made cell (suc first) n) j) (at (cells_in made cell first) i) → ⊥
+    turned : (i j : ℕ) → i < length (cells_in made cell first) → j < length (cells_of_octants made cell (first + 1) n)
+        → Holds (at (cells_of_octants made cell (first + 1) n) j) (at (cells_in made cell first) i) → ⊥
     turned i j p q r =
-        let w = octants_lie made cell (suc first) n j q in
-        other (at (cells_in made cell first) i) (octant_lie made cell first i p) (w.0, w.1, w.2, CubeContains-trans _ _ _ w.3 r)
+        let w = octants_lie made cell (first + 1) n j q in
+        let a = at (cells_in made cell first) i in
+        let b = at (cells_of_octants made cell (first + 1) n) j in
+        other a (octant_lie made cell first i p) (w.0, w.1, w.2, CubeContains-trans (child_of cell.cube w.0) b.cube a.cube w.3 r)
 
 -- the cells of a subtree nest
 pub cells_under-nested : (made : Made) (cell : Cell) → NestedCells made (cells_under made cell)
@@ -122,10 +123,10 @@ cells_under-nested made =
     (λ i l. lower cell (at (cells_of_octants made cell 0 8) i) (octants_lie made cell 0 8 i l)) (λ i l r. higher cell (at (cells_of_octants made cell 0 8) i) (octants_lie made cell 0 8 i l) r) (octants-nested made cell 0 8 (omega arith) ih))
   where
     lower : (cell c : Cell) → IsInOctants cell 0 8 c → Holds cell c
-    lower cell c w = CubeContains-trans _ _ _ (CubeContains-child_of cell.cube w.0) w.3
+    lower cell c w = CubeContains-trans cell.cube (child_of cell.cube w.0) c.cube (CubeContains-child_of cell.cube w.0) w.3
 
     higher : (cell c : Cell) → IsInOctants cell 0 8 c → Holds c cell → ⊥
-    higher cell c w r = let l = (w.3).level in let m = r.level in omega arith
+    higher cell c w r = let l = level_within (child_of cell.cube w.0) c.cube w.3 in let m = level_within c.cube cell.cube r in omega arith
 
 -- the first cell of a subtree is the cell
 pub record BeginsWith (cell : Cell) (cells : List Cell) : Type 0 where
@@ -140,13 +141,12 @@ cells_under-first made =
 -- a cell of the list, before this one, is the parent of this one
 pub record HasParent (cells : List Cell) (parent i : ℕ) : Type 0 where
   pub before : parent < i
-  pub level : (at cells i).cube.level ≡ suc (at cells parent).cube.level
-  pub contains : Holds (at cells parent) (at cells i)
+  pub octant : is_octant_of (at cells parent).cube (at cells i).cube ≡ true
 
 -- the cell is a child of this one, or has its parent in the list
 abbrev IsChildOrHasParent : Cell → List Cell → ℕ → Type 0
 IsChildOrHasParent cell cells i =
-    (Holds cell (at cells i) × ((at cells i).cube.level ≡ suc cell.cube.level)) ⊎ ((parent : ℕ) × HasParent cells parent i)
+    (is_octant_of cell.cube (at cells i).cube ≡ true) ⊎ ((parent : ℕ) × HasParent cells parent i)
 
 -- in lists joined the parents stay
 IsChildOrHasParent-append : (cell : Cell) (xs ys : List Cell) → ((i : ℕ) → i < length xs → IsChildOrHasParent cell xs i) → ((i : ℕ) → i < length ys → IsChildOrHasParent cell ys i)
@@ -164,13 +164,13 @@ IsChildOrHasParent-append cell xs ys p q i h = both (cases_place (length xs) (le
         elim (p i l) [
           | inl w ↦ inl (rw (left i l) w)
           | inr w ↦ let b = w.1.before in let l' : w.0 < length xs = omega arith in
-              inr (w.0, record { before = b; level = rw (left i l, left w.0 l') w.1.level; contains = rw (left i l, left w.0 l') w.1.contains })
+              inr (w.0, record { before = b; octant = rw (left i l, left w.0 l') w.1.octant })
         ]
     both (inr v) =
         elim (q v.0 v.2) [
           | inl w ↦ inl (rw (v.1, right v.0) w)
           | inr w ↦ let b = w.1.before in
-              inr (length xs + w.0, record { before = let e = v.1 in omega arith; level = rw (v.1, right v.0, right w.0) w.1.level; contains = rw (v.1, right v.0, right w.0) w.1.contains })
+              inr (length xs + w.0, record { before = let e = v.1 in omega arith; octant = rw (v.1, right v.0, right w.0) w.1.octant })
         ]
 
 -- in an octant the first cell is a child, and the others have parents
@@ -184,7 +184,7 @@ cells_in-parents made cell octant h =
     ]
   where
     lie : (i : ℕ) → i < length (cells_under made (child_cell made.points cell octant)) → IsChildOrHasParent cell (cells_under made (child_cell made.points cell octant)) i
-    lie zero l = let e = (cells_under-first made (child_cell made.points cell octant)).first in inl (rw e (CubeContains-child_of cell.cube octant, omega arith))
+    lie zero l = let e = (cells_under-first made (child_cell made.points cell octant)).first in inl (rw e (octant_from_within cell.cube (child_of cell.cube octant) (omega arith) (CubeContains-child_of cell.cube octant)))
     lie (suc i) l = inr (h (suc i) (omega arith) l)
 
 -- so they have in some octants
@@ -193,8 +193,8 @@ octants-parents : (made : Made) (cell : Cell) (first n : ℕ)
     → (i : ℕ) → i < length (cells_of_octants made cell first n) → IsChildOrHasParent cell (cells_of_octants made cell first n) i
 octants-parents made cell first zero h = λ i l. absurd (omega arith)
 octants-parents made cell first (suc n) h =
-    IsChildOrHasParent-append cell (cells_in made cell first) (cells_of_octants made cell (suc first) n)
-    (cells_in-parents made cell first (h first)) (octants-parents made cell (suc first) n h)
+    IsChildOrHasParent-append cell (cells_in made cell first) (cells_of_octants made cell (first + 1) n)
+    (cells_in-parents made cell first (h first)) (octants-parents made cell (first + 1) n h)
 
 -- each cell of a subtree but its first has its parent there
 pub cells_under-parents : (made : Made) (cell : Cell) (i : ℕ) → 0 < i → i < length (cells_under made cell) → (parent : ℕ) × HasParent (cells_under made cell) parent i
@@ -206,6 +206,6 @@ cells_under-parents made =
     later cell cells h zero low l = absurd (omega arith)
     later cell cells h (suc i) low l =
         elim (h i (omega arith)) [
-          | inl w ↦ (0, record { before = omega arith; level = w.1; contains = w.0 })
-          | inr v ↦ (suc v.0, record { before = let b = v.1.before in omega arith; level = v.1.level; contains = v.1.contains })
+          | inl w ↦ (0, record { before = omega arith; octant = w })
+          | inr v ↦ (suc v.0, record { before = let b = v.1.before in omega arith; octant = v.1.octant })
         ]

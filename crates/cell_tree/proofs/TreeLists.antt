@@ -8,7 +8,7 @@ use Rattle.std.proofs.lemmas.List.Sums.{count_by-le-length}
 use Rattle.cell_tree.specs.declared.children.Children.{Children}
 use Rattle.cell_tree.specs.declared.leaves.Leaf.{Leaf}
 use Rattle.cell_tree.specs.Laws.{CanBeMade}
-use Rattle.cell_tree.specs.Parts.{AreChildren, IsLeafAt, IsTree}
+use Rattle.cell_tree.specs.inner.Parts.{AreChildren, IsLeafAt, IsTree}
 use Rattle.cell_tree.specs.Tree.{Made, cells_of, cell_at, is_leaf, leaf_count, leaves_before, AreLeavesBelow, IsLeafCell, IsParent}
 use Rattle.cell_tree.proofs.Family.{size_at, run_within}
 use Rattle.cell_tree.proofs.LeafCounts.{leaves_before-le, leaves_before-leaf, leaves_of_run}
@@ -37,7 +37,7 @@ leaf_count-le made = count_by-le-length (is_leaf made) (cells_of made)
 -- the members of a cell are points
 pub members_are_points : (made : Made) → CanBeMade made → (cell : ℕ) → cell < length (cells_of made) → (members : List ℕ) → members ≡ (cell_at made cell).members → All (λ index. index < length made.points) members
 members_are_points made can cell l members e k d m =
-    ((sound_at made can cell l).members (get_or members k d) (subst (λ ms. Contains ms (get_or members k d)) e (Contains-get_or members k d m))).0
+    ((sound_at made can cell l).held.each (get_or members k d) (subst (λ ms. Contains ms (get_or members k d)) e (Contains-get_or members k d m))).0
 
 module _ (made : Made) (firsts : List ℕ) (leaves : List Leaf) (kin : Children) (t : IsTree made firsts leaves kin) where
   -- what is read as the parent is it

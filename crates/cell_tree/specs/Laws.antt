@@ -1,19 +1,23 @@
 -- What every octree keeps.
-use Rattle.std.specs.Prelude.{◌≡◌, ℕ, ◌<◌, ◌≤◌, [], length, slice_index_or, Contains}
+use Rattle.std.specs.Prelude.{◌≡◌, ℕ, ◌+◌, ◌*◌, ◌<◌, ◌≤◌, [], length, slice_index_or, Contains}
 use Rattle.sph_num.specs.Space.{IsPlace}
-use Rattle.sph_num.specs.Ranges.{IsLength}
-use Rattle.cell_geom.specs.Cube.{IsCube, cube_holds}
+use Rattle.sph_num.specs.Ranges.{most_particles, IsLength}
+use Rattle.cell_geom.specs.Cube.{deepest_level, IsCube, cube_holds}
 use Rattle.cell_tree.specs.Tree.{Made, cells_of, cell_at, IsLeafCell}
 
 -- the numbers that a tree can be made of
 pub record CanBeMade (made : Made) : Type 0 where
   pub some : 1 ≤ length made.points
-  pub not_too_many : length made.points ≤ 32768
+  pub not_too_many : length made.points ≤ most_particles
   pub one_length_each : length made.lengths ≡ length made.points
   pub places : (k : ℕ) → k < length made.points → IsPlace (slice_index_or made.points k [])
   pub lengths : (k : ℕ) (d : ℕ) → k < length made.lengths → IsLength (slice_index_or made.lengths k d)
   pub leaf_low : 1 ≤ made.leaf
   pub leaf_high : made.leaf ≤ 256
+
+-- the greatest number of cells: on each level there are no more than points
+abbrev pub most_cells : ℕ
+most_cells = (deepest_level + 1) * most_particles
 
 -- the leaf, by its cell, has the point among its members
 pub record HasMember (made : Made) (leaf cell index : ℕ) : Type 0 where

@@ -3,8 +3,6 @@ pub use Rattle.sph_num.specs.Ranges
 pub use Rattle.sph_num.specs.Space
 pub mod Due
 pub mod Laws
-pub mod Nodes
-pub mod Parts
 pub mod Spans
 pub mod Tree
-pub mod Under
+pub mod inner

@@ -1,8 +1,9 @@
 -- The octree over a list of points: cells in preorder, children in the order of octants.
 use Rattle.std.specs.Prelude.{◌≡◌, ℕ, zero, suc, ◌<◌, ◌≤◌, Bool, ◌==◌, ◌||◌, true, nat_le, if◌then◌else◌, List, [], ◌∷◌, map, filter, flat_map, length, slice_index, slice_index_or, count_by, take}
+use Rattle.std.specs.List.{range_with_len}
 use Rattle.sph_num.specs.Bound.{greatest_of}
 use Rattle.cell_geom.specs.declared.cube.Cube.{Cube}
-use Rattle.cell_geom.specs.Cube.{octant_of, child_of, CubeContains}
+use Rattle.cell_geom.specs.Cube.{deepest_level, octant_of, child_of, cube_contains, is_octant_of}
 
 -- what a tree is made of: its points, their smoothing lengths, and how many members a leaf may have
 pub record Made : Type 0 where
@@ -21,11 +22,6 @@ pub record Cell : Type 0 where
 -- the whole box
 abbrev pub root_cube : Cube
 root_cube = record { level = 0; at = 0 ∷ 0 ∷ 0 ∷ [] }
-
--- n numbers from the first on, rising
-abbrev pub numbers_from : ℕ → ℕ → List ℕ
-numbers_from first zero = []
-numbers_from first (suc n) = first ∷ numbers_from (suc first) n
 
 -- the cell of an octant: its cube, and the cell's members in it
 abbrev pub child_cell : List (List ℕ) → Cell → ℕ → Cell
@@ -46,11 +42,11 @@ subtree points leaf (suc levels) cell =
     (λ octant.
     if length (child_cell points cell octant).members == 0 then []
     else subtree points leaf levels (child_cell points cell octant))
-    (numbers_from 0 8)
+    (range_with_len 0 8)
 
--- the cells of a tree: the subtree of the whole box, ten levels deep
+-- the cells of a tree: the subtree of the whole box, with all levels below it
 abbrev pub cells_of : Made → List Cell
-cells_of made = subtree made.points made.leaf 10 (record { cube = root_cube; members = numbers_from 0 (length made.points) })
+cells_of made = subtree made.points made.leaf deepest_level (record { cube = root_cube; members = range_with_len 0 (length made.points) })
 
 abbrev pub no_cell : Cell
 no_cell = record { cube = root_cube; members = [] }
@@ -61,7 +57,7 @@ cell_at made cell = slice_index_or (cells_of made) cell no_cell
 
 -- the cell is a leaf: it has few members, or it lies on the last level
 abbrev pub is_leaf : Made → Cell → Bool
-is_leaf made cell = nat_le (length cell.members) made.leaf || nat_le 10 cell.cube.level
+is_leaf made cell = nat_le (length cell.members) made.leaf || nat_le deepest_level cell.cube.level
 
 -- how many leaves there are, in all and among the cells before this one
 abbrev pub leaf_count : Made → ℕ
@@ -74,12 +70,15 @@ leaves_before made cell = count_by (is_leaf made) (take cell (cells_of made))
 abbrev pub reach_of : Made → Cell → ℕ
 reach_of made cell = greatest_of (map (slice_index made.lengths) cell.members)
 
--- the one cell is the other's parent: it is the cell of the level above whose cube contains the other's
+-- the inner cell lies in the outer one, or is it
+abbrev pub lies_in : Made → ℕ → ℕ → Bool
+lies_in made outer inner = cube_contains (cell_at made outer).cube (cell_at made inner).cube
+
+-- the one cell is the other's parent: the other's cube is an octant of its own
 pub record IsParent (made : Made) (parent child : ℕ) : Type 0 where
   pub before : parent < child
   pub within : child < length (cells_of made)
-  pub level : (cell_at made child).cube.level ≡ suc (cell_at made parent).cube.level
-  pub contains : CubeContains (cell_at made parent).cube (cell_at made child).cube
+  pub octant : is_octant_of (cell_at made parent).cube (cell_at made child).cube ≡ true
 
 -- the leaf of this number is this cell: leaves are numbered in the order of their cells
 pub record IsLeafCell (made : Made) (leaf cell : ℕ) : Type 0 where
@@ -91,5 +90,5 @@ pub record IsLeafCell (made : Made) (leaf cell : ℕ) : Type 0 where
 pub record AreLeavesBelow (made : Made) (cell from to : ℕ) : Type 0 where
   pub some : from < to
   pub within : to ≤ leaf_count made
-  pub inside : (leaf at : ℕ) → IsLeafCell made leaf at → from ≤ leaf → leaf < to → CubeContains (cell_at made cell).cube (cell_at made at).cube
-  pub outside : (leaf at : ℕ) → IsLeafCell made leaf at → CubeContains (cell_at made cell).cube (cell_at made at).cube → (from ≤ leaf) × (leaf < to)
+  pub inside : (leaf at : ℕ) → IsLeafCell made leaf at → from ≤ leaf → leaf < to → lies_in made cell at ≡ true
+  pub outside : (leaf at : ℕ) → IsLeafCell made leaf at → lies_in made cell at ≡ true → (from ≤ leaf) × (leaf < to)

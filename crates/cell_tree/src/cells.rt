@@ -1,8 +1,9 @@
 //! The cells of a tree in preorder, over its points in the order of the leaves.
 ghost use Rattle.std.specs.Prelude.{◌≡◌, ◌≤◌, ◌<◌, length, take, slice_get, slice_index, IfOk, true};
-ghost use Rattle.cell_tree.specs.Laws.{CanBeMade};
-ghost use Rattle.cell_tree.specs.Nodes.{node_of, members_in};
-ghost use Rattle.cell_tree.specs.Tree.{made_of, cells_of, cell_at, is_leaf, numbers_from};
+ghost use Rattle.cell_tree.specs.Laws.{CanBeMade, most_cells};
+ghost use Rattle.cell_tree.specs.inner.Nodes.{node_of, members_in};
+ghost use Rattle.cell_tree.specs.Tree.{made_of, cells_of, cell_at, is_leaf};
+ghost use Rattle.std.specs.List.{range_with_len};
 
 use crate::grow::grow;
 use crate::node::{Node, is_leaf};
@@ -26,7 +27,7 @@ impl Model for Cells {
     ghost Value = { Made };
 
     ghost use Rattle.cell_tree.specs.Tree.{made_of};
-    ghost use Rattle.cell_tree.specs.Parts.{IsGrown};
+    ghost use Rattle.cell_tree.specs.inner.Parts.{IsGrown};
 
     ghost view = { λ c. made_of c.points.items c.lengths.items c.leaf };
 
@@ -35,7 +36,7 @@ impl Model for Cells {
 
 /// The numbers below this one.
 fn numbers(alloc: Global, end: u32) -> Result<Vec<u32>, AllocError>
-    ensures { IfOk result (λ v. v.items ≡ numbers_from 0 end) }
+    ensures { IfOk result (λ v. v.items ≡ range_with_len 0 end) }
 {
     let mut numbers = Vec::new(alloc);
     for number in 0..end {
@@ -107,7 +108,7 @@ impl Cells {
     /// How many cells there are.
     pub fn len(&self) -> u32
         ensures value { result ≡ length (cells_of self.now) }
-        ensures few { result ≤ 360448 }
+        ensures few { result ≤ most_cells }
         ensures can { CanBeMade self.now }
     {
         self.nodes.len() as u32

@@ -1,6 +1,6 @@
 //! The parents and the children of a tree's cells.
 ghost use Rattle.std.specs.Prelude.{◌≡◌, ◌+◌, ◌<◌, length, IfOk, OnOk};
-ghost use Rattle.cell_tree.specs.Parts.{AddsChildren, AreChildrenOf, KnowsParents};
+ghost use Rattle.cell_tree.specs.inner.Parts.{AddsChildren, AreChildrenOf, KnowsParents};
 ghost use Rattle.cell_tree.specs.Tree.{cells_of};
 
 use crate::cells::Cells;

@@ -1,9 +1,11 @@
 //! The cells of a tree, grown from its points.
 ghost use Rattle.std.specs.Prelude.{◌≡◌, ◌+◌, ◌<◌, ◌≤◌, ◌++◌, length, OnOk, map};
+ghost use Rattle.sph_num.specs.Ranges.{most_particles};
+ghost use Rattle.cell_geom.specs.Cube.{deepest_level};
 ghost use Rattle.cell_tree.specs.Tree.{made_of};
 ghost use Rattle.cell_tree.specs.Laws.{CanBeMade};
-ghost use Rattle.cell_tree.specs.Nodes.{cell_over, node_of, members_in, IsSound};
-ghost use Rattle.cell_tree.specs.Under.{cells_under, cells_below};
+ghost use Rattle.cell_tree.specs.inner.Nodes.{cell_over, node_of, members_in, IsSound};
+ghost use Rattle.cell_tree.specs.inner.Under.{cells_under, cells_below};
 
 use crate::node::{Node, is_leaf};
 use crate::octants::{reach, sort_by_octant};
@@ -23,7 +25,7 @@ pub fn grow(
 ) -> Result<(), AllocError>
     requires can { CanBeMade (made_of points.now lengths.now leaf) }
     requires sound { IsSound (made_of points.now lengths.now leaf) (cell_over cube members.old) }
-    requires short { length members.old ≤ 32768 }
+    requires short { length members.old ≤ most_particles }
     ensures members { let made = made_of points.now lengths.now leaf in
         OnOk result (members.new ≡ members_in made (cells_under made (cell_over cube members.old))) }
     ensures nodes { let made = made_of points.now lengths.now leaf in
@@ -59,8 +61,8 @@ fn grow_octants(
     requires can { CanBeMade (made_of points.now lengths.now leaf) }
     requires sound { IsSound (made_of points.now lengths.now leaf) (cell_over cube members.old) }
     requires many { leaf < length members.old }
-    requires splits { cube.level < 10 }
-    requires short { length members.old ≤ 32768 }
+    requires splits { cube.level < deepest_level }
+    requires short { length members.old ≤ most_particles }
     ensures members { let made = made_of points.now lengths.now leaf in
         OnOk result (members.new ≡ members_in made (cells_below made (cell_over cube members.old))) }
     ensures nodes { let made = made_of points.now lengths.now leaf in

@@ -1,6 +1,6 @@
 //! The leaves of a tree, numbered in the order of their cells.
 ghost use Rattle.std.specs.Prelude.{IfOk};
-ghost use Rattle.cell_tree.specs.Parts.{AreFirsts, AreLeaves};
+ghost use Rattle.cell_tree.specs.inner.Parts.{AreFirsts, AreLeaves};
 
 use crate::cells::Cells;
 use std::alloc::{AllocError, Global};

@@ -1,7 +1,7 @@
 //! What a tree keeps of one cell.
 ghost use Rattle.std.specs.Prelude.{◌≡◌};
 
-use cell_geom::Cube;
+use cell_geom::{Cube, DEEPEST_LEVEL};
 
 /// A cell, without its place in the tree.
 #[derive(Clone, Copy, Debug, PartialEq, Eq)]
@@ -16,11 +16,11 @@ pub struct Node {
     pub size: u32,
 }
 
-ghost use Rattle.cell_tree.specs.Nodes.{is_leaf_node};
+ghost use Rattle.cell_tree.specs.inner.Nodes.{is_leaf_node};
 
 /// Whether the cell has few members or lies on the last level.
 pub fn is_leaf(node: &Node, leaf: u32) -> bool
     ensures { result ≡ is_leaf_node leaf node.now }
 {
-    node.count <= leaf || node.cube.level >= 10
+    node.count <= leaf || node.cube.level >= DEEPEST_LEVEL
 }

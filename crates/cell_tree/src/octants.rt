@@ -1,7 +1,8 @@
 //! The members of a cell, sorted by the octant that they lie in.
 ghost use Rattle.std.specs.Prelude.{◌≡◌, ℕ, ◌+◌, ◌<◌, ◌++◌, length, slice_index, OnOk, IfOk, map};
 ghost use Rattle.sph_num.specs.Bound.{greatest_of};
-ghost use Rattle.cell_tree.specs.Nodes.{AreHeld, in_octant, in_octants};
+ghost use Rattle.cell_geom.specs.Cube.{deepest_level};
+ghost use Rattle.cell_tree.specs.inner.Nodes.{AreHeld, in_octant, in_octants};
 
 use cell_geom::{Cube, octant};
 use std::alloc::AllocError;
@@ -27,7 +28,7 @@ fn append_octant(
     sorted: &mut Vec<u32>,
 ) -> Result<(), AllocError>
     requires held { AreHeld points.now cube members.now }
-    requires splits { cube.level < 10 }
+    requires splits { cube.level < deepest_level }
     ensures { OnOk result (sorted.new.items
         ≡ sorted.old.items ++ in_octant points.now cube.level members.now number) }
 {
@@ -47,7 +48,7 @@ pub fn sort_by_octant(
     scratch: &mut Vec<u32>,
 ) -> Result<[usize; 8], AllocError>
     requires held { AreHeld points.now cube members.old }
-    requires splits { cube.level < 10 }
+    requires splits { cube.level < deepest_level }
     ensures sorted { OnOk result (members.new
         ≡ in_octants points.now cube.level members.old 0 8) }
     ensures ends { IfOk result (λ ends. (k : ℕ) → k < 8

@@ -1,10 +1,10 @@
 //! The octree: which cells there are, how they nest, and which points each leaf has.
-ghost use Rattle.std.specs.Prelude.{◌≡◌, ℕ, ◌<◌, ◌≤◌, ◌↔◌, [], false, length, slice_index, slice_index_or, All, Contains, IfOk, IfSome, MatchOption, OnOk};
+ghost use Rattle.std.specs.Prelude.{◌≡◌, ℕ, ◌+◌, ◌<◌, ◌≤◌, ◌↔◌, [], false, length, slice_index, slice_index_or, All, Contains, IfOk, IfSome, MatchOption, OnOk};
 ghost use Rattle.std.specs.List.Sorted.{IsStrictlyIncreasing};
 ghost use Rattle.sph_num.specs.Space.{IsPlace};
-ghost use Rattle.sph_num.specs.Ranges.{IsLength};
+ghost use Rattle.sph_num.specs.Ranges.{most_particles, IsLength};
 ghost use Rattle.cell_geom.specs.Cube.{IsCube};
-ghost use Rattle.cell_tree.specs.Laws.{CanBeMade, IsPartition};
+ghost use Rattle.cell_tree.specs.Laws.{CanBeMade, IsPartition, most_cells};
 ghost use Rattle.cell_tree.specs.Tree.{made_of, cells_of, cell_at, is_leaf, leaf_count, reach_of, AreLeavesBelow, IsLeafCell, IsParent};
 
 use crate::cells::Cells;
@@ -37,7 +37,7 @@ impl Model for Tree {
 
     ghost Value = { Made };
 
-    ghost use Rattle.cell_tree.specs.Parts.{IsTree};
+    ghost use Rattle.cell_tree.specs.inner.Parts.{IsTree};
 
     ghost view = { λ t. t.cells };
 
@@ -98,7 +98,7 @@ impl Tree {
     pub fn cells(&self) -> u32
         ensures value { result ≡ length (cells_of self.now) }
         ensures some { 1 ≤ result }
-        ensures few { result ≤ 360448 }
+        ensures few { result ≤ most_cells }
     {
         self.cells.len()
     }
@@ -107,7 +107,8 @@ impl Tree {
     pub fn leaves(&self) -> u32
         ensures value { result ≡ leaf_count self.now }
         ensures some { 1 ≤ result }
-        ensures few { result ≤ 360448 }
+        ensures most { result ≤ length self.now.points }
+        ensures few { result ≤ most_particles }
     {
         self.leaves.len() as u32
     }
@@ -167,7 +168,9 @@ impl Tree {
     /// The leaves below a cell, or the cell itself if it is one: from the first number up to the second.
     pub fn leaves_below(&self, cell: u32) -> (u32, u32)
         requires { cell < length (cells_of self.now) }
-        ensures { AreLeavesBelow self.now cell result.0 result.1 }
+        ensures below { AreLeavesBelow self.now cell result.0 result.1 }
+        ensures own { (leaf : ℕ) → IsLeafCell self.now leaf cell → result ≡ (leaf, leaf + 1) }
+        ensures only { (from to : ℕ) → AreLeavesBelow self.now cell from to → result ≡ (from, to) }
     {
         let end = cell + self.cells.node(cell).size;
         (self.firsts[cell as usize], self.firsts[end as usize])
@@ -207,6 +210,7 @@ impl Tree {
 #[cfg(test)]
 mod tests {
     use super::*;
+    use cell_geom::DEEPEST_LEVEL;
 
     fn deepest(tree: &Tree) -> u32 {
         let mut deepest = 0;
@@ -221,7 +225,7 @@ mod tests {
         let tree = Tree::build(rt.alloc(), &[[0; 3]; 40], &[131072; 40], 16)?;
         assert_eq!(rt; tree.cells(), 11);
         assert_eq!(rt; tree.leaves(), 1);
-        assert_eq!(rt; deepest(&tree), 10);
+        assert_eq!(rt; deepest(&tree), DEEPEST_LEVEL);
         assert_eq!(rt; tree.members(0).len(), 40);
         assert_eq!(rt; tree.count(0), 40);
         assert_eq!(rt; tree.reach(0), 131072);
@@ -234,7 +238,7 @@ mod tests {
         let tree = Tree::build(rt.alloc(), &points, &[1024; 2], 1)?;
         assert_eq!(rt; tree.cells(), 12);
         assert!(rt; tree.leaves() == 2);
-        assert_eq!(rt; deepest(&tree), 10);
+        assert_eq!(rt; deepest(&tree), DEEPEST_LEVEL);
         assert!(rt; tree.points() == 2);
         assert_eq!(rt; tree.point(1), [1512, 0, 0]);
         assert_eq!(rt; tree.length(1), 1024);

@@ -1,11 +1,13 @@
 pub mod ChildLists
+pub mod CoveredPairs
+pub mod CoveredSelves
 pub mod Covering
 pub mod Distances
+pub mod DueSpans
 pub mod Families
 pub mod FewSpans
-pub mod GapOfCubes
 pub mod LookCases
 pub mod LookSteps
 pub mod Shares
 pub mod SpanCells
-pub mod Totals
+pub mod Sums

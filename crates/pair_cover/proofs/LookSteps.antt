@@ -1,19 +1,21 @@
 -- What the looks at two cells and at one give, and how the spans that they add join.
-use Rattle.std.proofs.Common.{◌≡◌, ℕ, zero, suc, ◌+◌, ◌*◌, ◌<◌, ◌≤◌, Bool, true, false, not, ◌||◌, leb, List, [], ◌∷◌, ◌++◌, length, take, drop, map, get_or, Some, None, refl, sym, ap, ◌∙◌, subst, inl, inr, append_assoc, arith}
+use Rattle.std.proofs.Common.{◌≡◌, ℕ, zero, suc, ◌+◌, ◌*◌, ◌<◌, ◌≤◌, Bool, true, false, not, ◌||◌, leb, List, [], ◌∷◌, ◌++◌, length, take, drop, map, get_or, Some, None, sym, ap, ◌∙◌, subst, inl, inr, append_assoc, arith}
 use Rattle.std.specs.List.{flat_map}
 use Rattle.std.proofs.lemmas.Bool.{cases_Bool}
 use Rattle.std.proofs.lemmas.List.{append-nil, take_more, take_all, drop_more, drop_all, flat_map_more}
 use Rattle.std.proofs.lemmas.List.Concat.{flat_map-append}
 use Rattle.std.proofs.lemmas.List.Folds.{flat_map-map}
+use Rattle.cell_geom.specs.Gap.{gap2_of}
 use Rattle.cell_tree.specs.declared.tree.Span.{Span}
 use Rattle.cell_tree.specs.Due.{has_due, AreDueBefore}
 use Rattle.cell_tree.specs.Laws.{CanBeMade}
 use Rattle.cell_tree.specs.Tree.{Made, cells_of, cell_at}
 use Rattle.cell_tree.proofs.Members.{sound_at}
 use Rattle.pair_cover.specs.declared.looks.Limits.{Limits}
-use Rattle.pair_cover.specs.Looks.{reach_of_two, gap2_of, drops, stops, splits_first, span_of, children_of, pair_spans, self_spans, twos, most_looks}
-use Rattle.pair_cover.specs.Steps.{Adds, level_at}
+use Rattle.pair_cover.specs.Looks.{reach_of_two, drops, stops, splits_first, span_of, children_of, pair_spans, self_spans, twos, most_looks}
+use Rattle.pair_cover.specs.inner.Steps.{Adds, level_at}
 use Rattle.pair_cover.proofs.LookCases.{ends, pairs_none, pairs_dropped, pairs_stopped, pairs_first, pairs_second, selves_none, selves_dropped, selves_stopped, selves_split}
+use Rattle.cell_geom.specs.Cube.{deepest_level}
 
 module _ (made : Made) (due : List Bool) (limits : Limits) where
   -- what is dropped gives no span, by however many looks
@@ -26,36 +28,38 @@ module _ (made : Made) (due : List Bool) (limits : Limits) where
   selves_nothing (suc looks) cell d = selves_dropped made due limits looks cell d
 
   -- what holds of each answer of a look at two cells holds of its spans
-  pub pair_cases : (P : List Span → Type 0) (looks a b : ℕ) → P [] → P (span_of a (Some b) ∷ []) → P (flat_map (λ child. pair_spans made due limits looks child b) (children_of made a))
-      → P (flat_map (λ child. pair_spans made due limits looks a child) (children_of made b)) → P (pair_spans made due limits (suc looks) a b)
+  pub pair_cases : (P : List Span → Type 0) (looks a b : ℕ) → (drops made due limits a b ≡ true → P []) → (drops made due limits a b ≡ false → P (span_of a (Some b) ∷ []))
+      → (splits_first made a b ≡ true → P (flat_map (λ child. pair_spans made due limits looks child b) (children_of made a)))
+      → (stops made limits a b ≡ false → splits_first made a b ≡ false → P (flat_map (λ child. pair_spans made due limits looks a child) (children_of made b)))
+      → P (pair_spans made due limits (suc looks) a b)
   pair_cases P looks a b none span first second =
       elim (cases_Bool (drops made due limits a b)) [
-        | inl d ↦ subst P (sym (pairs_dropped made due limits looks a b d)) none
+        | inl d ↦ subst P (sym (pairs_dropped made due limits looks a b d)) (none d)
         | inr d ↦ elim (cases_Bool (stops made limits a b)) [
-          | inl s ↦ subst P (sym (pairs_stopped made due limits looks a b d s)) span
+          | inl s ↦ subst P (sym (pairs_stopped made due limits looks a b d s)) (span d)
           | inr s ↦ elim (cases_Bool (splits_first made a b)) [
-            | inl f ↦ subst P (sym (pairs_first made due limits looks a b d s f)) first
-            | inr f ↦ subst P (sym (pairs_second made due limits looks a b d s f)) second
+            | inl f ↦ subst P (sym (pairs_first made due limits looks a b d s f)) (first f)
+            | inr f ↦ subst P (sym (pairs_second made due limits looks a b d s f)) (second s f)
           ]
         ]
       ]
 
   -- so at one cell
-  pub self_cases : (P : List Span → Type 0) (looks cell : ℕ) → P [] → P (span_of cell None ∷ [])
-      → P (flat_map (self_spans made due limits looks) (children_of made cell) ++ flat_map (λ two. pair_spans made due limits most_looks two.0 two.1) (twos (children_of made cell)))
+  pub self_cases : (P : List Span → Type 0) (looks cell : ℕ) → (has_due made due cell ≡ false → P []) → (has_due made due cell ≡ true → P (span_of cell None ∷ []))
+      → (ends made limits cell ≡ false → P (flat_map (self_spans made due limits looks) (children_of made cell) ++ flat_map (λ two. pair_spans made due limits most_looks two.0 two.1) (twos (children_of made cell))))
       → P (self_spans made due limits (suc looks) cell)
   self_cases P looks cell none span below =
       elim (cases_Bool (has_due made due cell)) [
-        | inr d ↦ subst P (sym (selves_dropped made due limits looks cell d)) none
+        | inr d ↦ subst P (sym (selves_dropped made due limits looks cell d)) (none d)
         | inl d ↦ elim (cases_Bool (ends made limits cell)) [
-          | inl s ↦ subst P (sym (selves_stopped made due limits looks cell d s)) span
-          | inr s ↦ subst P (sym (selves_split made due limits looks cell d s)) below
+          | inl s ↦ subst P (sym (selves_stopped made due limits looks cell d s)) (span d)
+          | inr s ↦ subst P (sym (selves_split made due limits looks cell d s)) (below s)
         ]
       ]
 
--- levels go to ten
-pub level_most : (made : Made) → CanBeMade made → (cell : ℕ) → cell < length (cells_of made) → level_at made cell ≤ 10
-level_most made can cell l = (sound_at made can cell l).in_box.level
+-- no cell is on a deeper level than the deepest
+pub level_most : (made : Made) → CanBeMade made → (cell : ℕ) → cell < length (cells_of made) → level_at made cell ≤ deepest_level
+level_most made can cell l = (sound_at made can cell l).held.in_box.level
 
 module _ (made : Made) (before : List ℕ) where
   -- nothing is added
@@ -93,9 +97,6 @@ module _ (made : Made) (before : List ℕ) where
     abbrev pub AddsTo : ℕ → ℕ → List Span → Type 0
     AddsTo enough i new = Adds made before enough (λ due looks. flat_map (f due looks) (take i xs)) old new
 
-    pub AddsTo-none : (enough : ℕ) → AddsTo enough 0 old
-    AddsTo-none enough = Adds-nothing enough (λ due looks. []) old (λ due looks d. refl)
-
     pub AddsTo-more : (enough other i x : ℕ) (mid new : List Span) → other ≤ enough → i < length xs → x ≡ get_or xs i 0 → AddsTo enough i mid → Adds made before other (λ due looks. f due looks x) mid new → AddsTo enough (i + 1) new
     AddsTo-more enough other i x mid new l m e a b = record {
       added = λ due looks d n.
@@ -113,9 +114,6 @@ module _ (made : Made) (before : List ℕ) (g : List Bool → ℕ × ℕ → Lis
   -- with the looks at each two of the cells from this one on, all looks at two of them are added
   pub record AddsTwos (i : ℕ) (new : List Span) : Type 0 where
     pub joined : (due : List Bool) → AreDueBefore made due before → new ++ flat_map (g due) (twos (drop i xs)) ≡ old ++ flat_map (g due) (twos xs)
-
-  pub AddsTwos-none : AddsTwos 0 old
-  AddsTwos-none = record { joined = λ due d. refl }
 
   pub AddsTwos-more : (i x : ℕ) (mid new : List Span) → i < length xs → x ≡ get_or xs i 0 → AddsTwos i mid
       → Adds made before 0 (λ due looks. flat_map (λ y. g due (x, y)) (drop (i + 1) xs)) mid new → AddsTwos (i + 1) new
@@ -137,7 +135,7 @@ module _ (made : Made) (before : List ℕ) (g : List Bool → ℕ × ℕ → Lis
 
 -- whether a look at two cells drops them, where one has a due member
 pub drops_from_gap : (made : Made) (due : List Bool) (limits : Limits) (a b reach gap : ℕ) → (has_due made due a || has_due made due b) ≡ true → reach ≡ reach_of_two made a b
-    → gap2_of (cell_at made a).cube (cell_at made b).cube limits.slack ≡ gap → leb (reach * reach) gap ≡ drops made due limits a b
+    → gap ≡ gap2_of (cell_at made a).cube (cell_at made b).cube limits.slack → leb (reach * reach) gap ≡ drops made due limits a b
 drops_from_gap made due limits a b reach gap d r g =
-    ap (λ n. leb (n * n) gap) r ∙ ap (λ n. leb (reach_of_two made a b * reach_of_two made a b) n) (sym g)
+    ap (λ n. leb (n * n) gap) r ∙ ap (λ n. leb (reach_of_two made a b * reach_of_two made a b) n) g
     ∙ ap (λ t. not t || leb (reach_of_two made a b * reach_of_two made a b) (gap2_of (cell_at made a).cube (cell_at made b).cube limits.slack)) (sym d)

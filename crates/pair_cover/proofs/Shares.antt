@@ -1,21 +1,29 @@
 -- Whether a point is a member, as a number, and so whether two points meet.
-use Rattle.std.proofs.Common.{◌≡◌, ℕ, ◌+◌, ◌*◌, ◌<◌, cond, eqb, List, get_or, Option, Some, None, refl, sym, ◌∙◌, subst, ◌⊎◌, inl, inr, arith}
-use Rattle.std.specs.List.{Contains, list_any}
+use Rattle.std.proofs.Common.{◌≡◌, ℕ, ◌+◌, ◌*◌, ◌<◌, true, cond, eqb, List, get_or, Option, Some, None, refl, sym, ◌∙◌, subst, ◌⊎◌, inl, inr, arith}
+use Rattle.std.specs.List.{Contains}
 use Rattle.std.proofs.lemmas.Bool.{cases_Bool, cases_eq, eqb-true, eq-eqb, true≢false}
 use Rattle.std.proofs.lemmas.List.Folds.{Any-from_list_any, list_any_at}
-use Rattle.sph_num.specs.Cover.{Group, MeetIn, Meets, MeetsItself}
+use Rattle.sph_num.specs.Cover.{is_member, Group, MeetIn, Meets, MeetsItself}
+
+-- the test of a member tells the members
+pub member_from_test : (members : List ℕ) (i : ℕ) → is_member members i ≡ true → Contains members i
+member_from_test members i t =
+    let w = Any-from_list_any (λ k. eqb k i) members t in subst (Contains members) (eqb-true w.1 i w.4) (w.0, w.2, w.3)
+
+pub test_from_member : (members : List ℕ) (i : ℕ) → Contains members i → is_member members i ≡ true
+test_from_member members i c = list_any_at (λ k. eqb k i) members c.0 i c.1 (eq-eqb (get_or members c.0 i) i c.2)
 
 -- 1 for a member, 0 for any other point
 pub share : List ℕ → ℕ → ℕ
-share members i = cond (list_any (λ k. eqb k i) members) 1 0
+share members i = cond (is_member members i) 1 0
 
 -- a list has the number, or has it not
 pub share_cases : (members : List ℕ) (i : ℕ) → (Contains members i × (share members i ≡ 1)) ⊎ ((Contains members i → ⊥) × (share members i ≡ 0))
 unfolding share
 share_cases members i =
-    elim (cases_Bool (list_any (λ k. eqb k i) members)) [
-      | inl t ↦ let w = Any-from_list_any (λ k. eqb k i) members t in inl (subst (Contains members) (eqb-true w.1 i w.4) (w.0, w.2, w.3), rw t refl)
-      | inr f ↦ inr (λ c. true≢false (sym (list_any_at (λ k. eqb k i) members c.0 i c.1 (eq-eqb (get_or members c.0 i) i c.2)) ∙ f), rw f refl)
+    elim (cases_Bool (is_member members i)) [
+      | inl t ↦ inl (member_from_test members i t, rw t refl)
+      | inr f ↦ inr (λ c. true≢false (sym (test_from_member members i c) ∙ f), rw f refl)
     ]
 
 -- a member has the share 1, and what isn't one has none
@@ -56,8 +64,8 @@ both_some p q l =
     ]
 
 -- two points that meet have a share
-pub some_of_two : (i j : ℕ) → (i ≡ j → ⊥) → (g : Group) → Meets i j g → 0 < share_of_two i j g
-some_of_two i j ne g m = some g.first g.second m
+pub some_of_two : (i j : ℕ) (g : Group) → Meets i j g → 0 < share_of_two i j g
+some_of_two i j g m = some g.first g.second m.1
   where
     some : (first : List ℕ) (second : Option (List ℕ)) → MeetIn first second i j → 0 < share_in first second i j
     some first None w = let p = share_member first i w.0 in let q = share_member first j w.1 in rw (p, q) (omega arith)
@@ -66,13 +74,13 @@ some_of_two i j ne g m = some g.first g.second m
 
 -- and two that have one meet
 pub two_from_some : (i j : ℕ) → (i ≡ j → ⊥) → (g : Group) → 0 < share_of_two i j g → Meets i j g
-two_from_some i j ne g l = meet g.first g.second l
+two_from_some i j ne g l = (ne, meet g.first g.second l)
   where
     member : (xs ys : List ℕ) (k m : ℕ) → 0 < share xs k * share ys m → Contains xs k × Contains ys m
     member xs ys k m l = let w = both_some (share xs k) (share ys m) l in (member_from_share xs k w.0, member_from_share ys m w.1)
 
     meet : (first : List ℕ) (second : Option (List ℕ)) → 0 < share_in first second i j → MeetIn first second i j
-    meet first None l = let w = member first first i j l in (w.0, w.1, ne)
+    meet first None l = member first first i j l
     meet first (Some second) l =
         elim (cases_eq (share first i * share second j) 0) [
           | inl e ↦ let w = member first second j i (omega arith) in inr (w.0, w.1)

@@ -1,3 +1,3 @@
 pub mod Covering
 pub mod Looks
-pub mod Steps
+pub mod inner

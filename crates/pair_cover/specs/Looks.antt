@@ -1,39 +1,17 @@
 -- The spans of a tree: found by looks at one cell and at two, from the whole box down.
-use Rattle.std.specs.Prelude.{ℕ, zero, suc, ◌+◌, ◌*◌, ◌/◌, Bool, true, false, not, ◌&&◌, ◌||◌, ◌==◌, nat_le, nat_lt, if◌then◌else◌, List, [], ◌∷◌, ◌++◌, map, filter, flat_map, length, slice_index, max, Option, Some, None}
-use Rattle.sph_num.specs.Bound.{least_of}
-use Rattle.cell_geom.specs.declared.cube.Cube.{Cube}
-use Rattle.cell_geom.specs.Cube.{side_of}
-use Rattle.cell_geom.specs.Gap.{apart, slackened}
+use Rattle.std.specs.Prelude.{ℕ, zero, suc, ◌+◌, ◌*◌, Bool, true, false, not, ◌&&◌, ◌||◌, ◌==◌, nat_le, nat_lt, if◌then◌else◌, List, [], ◌∷◌, ◌++◌, map, filter, flat_map, length, max, Option, Some, None}
+use Rattle.std.specs.List.{range_with_len}
 use Rattle.cell_tree.specs.declared.tree.Span.{Span}
 use Rattle.cell_tree.specs.Due.{has_due}
 use Rattle.cell_tree.specs.Spans.{count_of, is_leaf_cell}
-use Rattle.cell_tree.specs.Tree.{Made, cell_at, cells_of, numbers_from, reach_of}
+use Rattle.cell_tree.specs.Tree.{Made, cell_at, cells_of, reach_of}
 use Rattle.pair_cover.specs.declared.looks.Limits.{Limits}
-
--- the one cube is a half of the other's side and lies in it
-abbrev pub is_octant_of : Cube → Cube → Bool
-is_octant_of outer inner =
-    (inner.level == suc outer.level)
-    && (slice_index inner.at 0 / 2 == slice_index outer.at 0)
-    && (slice_index inner.at 1 / 2 == slice_index outer.at 1)
-    && (slice_index inner.at 2 / 2 == slice_index outer.at 2)
+use Rattle.cell_geom.specs.Cube.{deepest_level, is_octant_of}
+use Rattle.cell_geom.specs.Gap.{gap2_of}
 
 -- the children of a cell, in the order of their numbers
 unfoldable pub children_of : Made → ℕ → List ℕ
-children_of made cell = filter (λ child. is_octant_of (cell_at made cell).cube (cell_at made child).cube) (numbers_from 0 (length (cells_of made)))
-
--- the coordinates of a cube on an axis
-abbrev pub coordinates : Cube → ℕ → List ℕ
-coordinates cube axis = numbers_from (slice_index cube.at axis * side_of cube.level) (side_of cube.level)
-
--- the least distance on an axis of a coordinate of the one cube from one of the other
-unfoldable pub axis_gap_of : Cube → Cube → ℕ → ℕ
-axis_gap_of a b axis = least_of (flat_map (λ x. map (λ y. apart x y) (coordinates b axis)) (coordinates a axis))
-
--- the square of the gap of two cubes, each of whose points may have moved by the slack
-abbrev pub gap2_of : Cube → Cube → ℕ → ℕ
-gap2_of a b slack =
-    slackened (axis_gap_of a b 0) slack + slackened (axis_gap_of a b 1) slack + slackened (axis_gap_of a b 2) slack
+children_of made cell = filter (λ child. is_octant_of (cell_at made cell).cube (cell_at made child).cube) (range_with_len 0 (length (cells_of made)))
 
 -- the greater reach of two cells
 abbrev pub reach_of_two : Made → ℕ → ℕ → ℕ
@@ -74,9 +52,9 @@ abbrev pub twos : List ℕ → List (ℕ × ℕ)
 twos [] = []
 twos (x ∷ xs) = map (λ y. (x, y)) xs ++ twos xs
 
--- two cells are split no more than twenty times, and one no more than ten
+-- each split goes down a level in one of two cells, and there is a look before the first
 abbrev pub most_looks : ℕ
-most_looks = 21
+most_looks = 2 * deepest_level + 1
 
 -- the spans of a look at one cell: it drops the cell where no member is due, gives its span where it is a leaf or has few pairs, and
 -- else looks at each child and then at each two of them

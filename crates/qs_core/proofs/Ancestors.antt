@@ -1,15 +1,16 @@
 -- The ancestors of a cell: their numbers fall, so each stands once.
 use Rattle.std.proofs.Common.{◌≡◌, ℕ, zero, suc, ◌<◌, ◌≤◌, eqb, length, get_or, take, All, count_by, Option, Some, None, refl, sym, ap, inl, inr, ◌∙◌, arith}
+use Rattle.std.specs.Prelude.{unwrap_or}
 use Rattle.std.proofs.lemmas.Bool.{cases_eq, cases_lt}
 use Rattle.std.proofs.lemmas.Option.{none-some, slice_get_past}
 use Rattle.std.proofs.lemmas.List.Elements.{All-nil, All-cons, All-get_or, All-contains}
 use Rattle.std.proofs.lemmas.List.Sums.{sum_by-cons, sum_by-take-le}
-use Rattle.qs_core.specs.Shape.{Shape, IsShape, ancestors, cells_up, parent_of, or_else}
-use Rattle.qs_core.proofs.Counts.{one_if, one_if-le, one_if-other, count_none}
+use Rattle.lists.proofs.Counts.{count_none, one_if, one_if-le, one_if-other}
+use Rattle.qs_core.specs.Shape.{Shape, IsShape, ancestors, cells_up, parent_of}
 
 -- past the last cell there is no parent
 pub parent_of-none : (shape : Shape) (cell : ℕ) → length shape.parents ≤ cell → parent_of shape cell ≡ None
-parent_of-none shape cell h = ap (or_else {A = Option ℕ} None) (slice_get_past shape.parents cell h)
+parent_of-none shape cell h = ap (λ (o : Option (Option ℕ)). unwrap_or o None) (slice_get_past shape.parents cell h)
 
 -- a parent's number is below its child's, and the child is a cell
 pub parent_below : (shape : Shape) → IsShape shape → (cell above : ℕ) → parent_of shape cell ≡ Some above → (above < cell) × (cell < length shape.parents)

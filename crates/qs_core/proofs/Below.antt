@@ -1,10 +1,11 @@
 -- The leaves below a cell and those of a task, in order.
-use Rattle.std.proofs.Common.{◌≡◌, ℕ, zero, suc, ◌+◌, ◌-◌, ◌<◌, ◌≤◌, ◌⊎◌, ◌↔◌, Bool, true, false, List, [], ◌∷◌, ◌++◌, Contains, Option, Some, None, sym, ap, inl, inr, ◌∙◌, subst, arith, append_assoc, append-nil}
+use Rattle.std.proofs.Common.{◌≡◌, ℕ, ◌+◌, ◌-◌, ◌<◌, ◌≤◌, ◌⊎◌, ◌↔◌, Bool, true, false, List, [], ◌∷◌, ◌++◌, Contains, Option, Some, None, sym, ap, inl, inr, ◌∙◌, subst, arith}
 use Rattle.std.proofs.lemmas.Bool.{false≢true}
 use Rattle.std.specs.List.{range_with_len}
-use Rattle.qs_core.specs.Shape.{Shape, IsBelow, IsBelowSome, Touches, leaves_below, leaves_of, leaves_of_other, range_of, task_at}
-use Rattle.qs_core.proofs.Counts.{Contains-append, Contains-nil}
-use Rattle.qs_core.proofs.Edges.{Contains-range, range-within}
+use Rattle.lists.proofs.Ranges.{Contains-range, range-within, append-range-push}
+use Rattle.lists.proofs.Elements.{Contains-append, Contains-nil}
+use Rattle.qs_core.specs.Shape.{Shape, IsBelow, Touches, leaves_below, leaves_of, leaves_of_other, range_of, task_at}
+use Rattle.qs_core.specs.inner.Held.{IsBelowSome}
 
 -- a test by two tests, the first of which holds or not
 pub or_first : {P Q R : Type 0} {r : Bool} → R ↔ (P ⊎ Q) → r ≡ true → ((r ≡ true) ↔ P) → (r ≡ true) ↔ R
@@ -46,40 +47,14 @@ touches_is shape task leaf =
       ]),
     )
 
--- one more number
-pub range-push : (a n : ℕ) → range_with_len a (suc n) ≡ range_with_len a n ++ (a + n) ∷ []
-range-push a zero = let e : a ≡ a + 0 = omega arith in ap (λ (k : ℕ). k ∷ []) e
-range-push a (suc n) =
-    let e : a + 1 + n ≡ a + suc n = omega arith in
-    ap (λ (xs : List ℕ). a ∷ xs) (range-push (a + 1) n ∙ ap (λ (k : ℕ). range_with_len (a + 1) n ++ k ∷ []) e)
-
 -- a walk that appends the numbers
 pub record IsListing (from to at : ℕ) (before items : List ℕ) : Type 0 where
   pub listed : items ≡ before ++ range_with_len from (at - from)
   pub few : at - from ≤ to - from
 
-pub listing_none : (from to : ℕ) (before : List ℕ) → IsListing from to from before before
-listing_none from to before = record { listed = subst (λ n. before ≡ before ++ range_with_len from n) zero' (sym (append-nil before)); few = omega arith }
-  where
-    zero' : 0 ≡ from - from
-    zero' = omega arith
-
 pub listing_more : (from to at : ℕ) (before items new : List ℕ) → from ≤ at → at < to → new ≡ items ++ at ∷ [] → IsListing from to at before items → IsListing from to (at + 1) before new
 listing_more from to at before items new l m e is =
-    let n : at + 1 - from ≡ suc (at - from) = omega arith in
-    let k : from + (at - from) ≡ at = omega arith in
-    let more : range_with_len from (at + 1 - from) ≡ range_with_len from (at - from) ++ at ∷ [] =
-    ap (range_with_len from) n ∙ range-push from (at - from) ∙ ap (λ (x : ℕ). range_with_len from (at - from) ++ x ∷ []) k in
-    record {
-      listed = e ∙ ap (λ (xs : List ℕ). xs ++ at ∷ []) is.listed ∙ append_assoc before (range_with_len from (at - from)) (at ∷ []) ∙ ap (λ (xs : List ℕ). before ++ xs) (sym more);
-      few = omega arith;
-    }
-
-pub listing_all : (from to at : ℕ) (before items : List ℕ) → to ≤ at → IsListing from to at before items → items ≡ before ++ range_with_len from (to - from)
-listing_all from to at before items l is =
-    let few = is.few in
-    let n : at - from ≡ to - from = omega arith in
-    is.listed ∙ ap (λ k. before ++ range_with_len from k) n
+    record { listed = e ∙ ap (λ (xs : List ℕ). xs ++ at ∷ []) is.listed ∙ append-range-push before from at l; few = omega arith }
 
 -- the leaves of a task, by its cells
 pub leaves_by_cells : (shape : Shape) (task first : ℕ) (second : Option ℕ) (items : List ℕ) → first ≡ (task_at shape task).first → second ≡ (task_at shape task).second

@@ -1,17 +1,20 @@
 -- The chains of a seat, and what a change of the newest one leaves of their laws.
-use Rattle.std.proofs.Common.{◌≡◌, ◌≢◌, ℕ, suc, ◌+◌, ◌*◌, ◌<◌, ◌≤◌, eqb, List, [], ◌∷◌, length, get_or, take, set, slice_get, slice_index, Contains, sum_by, count_by, Some, refl, sym, ap, ap₂, subst, arith, get_or-take, length-take-le}
+use Rattle.std.proofs.Common.{◌≡◌, ◌≢◌, ℕ, suc, ◌+◌, ◌<◌, ◌≤◌, eqb, List, [], ◌∷◌, length, get_or, take, set, slice_get, Contains, sum_by, count_by, refl, sym, ap, ap₂, subst, ◌∙◌, arith, get_or-take, length-take-le}
+use Rattle.std.specs.Prelude.{unwrap_or}
 use Rattle.std.proofs.lemmas.Option.{none-some, slice_get_within}
 use Rattle.std.proofs.lemmas.List.Sums.{sum_by-cons, get_or-le-sum_by}
 use Rattle.std.specs.List.{range_with_len}
-use Rattle.qs_core.specs.Shape.{Shape, IsShape, ancestors, or_else}
-use Rattle.qs_core.specs.Core.{Chain, Core, IsComplete, View, cell_word, empty_view, view_at}
+use Rattle.lists.proofs.Counts.{count_by-take_suc, counted, one_if, one_if-same}
+use Rattle.lists.proofs.Places.{Contains-from_slice_get, get_from_Contains}
+use Rattle.lists.proofs.Elements.{Contains-head, Contains-later, Contains-nil, each_cons}
+use Rattle.lists.proofs.Sums.{few_for_places, sum_by-turned, sum_by-le_each, share-le}
+use Rattle.lists.proofs.Ranges.{part-le-range}
+use Rattle.qs_core.specs.Shape.{Shape, IsShape, ancestors}
+use Rattle.qs_core.specs.Core.{Chain, Core, IsComplete, View, view_at}
 use Rattle.qs_core.specs.Steps.{ancestor_at, newest, no_chain, rest}
-use Rattle.qs_core.specs.Sound.{AreChains, IsMarked, IsView, locks_of, raises_of}
+use Rattle.qs_core.specs.Sound.{AreCellsSound, AreChains, IsMarked, IsView, locks_of, raises_of}
 use Rattle.qs_core.proofs.Ancestors.{raised_once}
-use Rattle.qs_core.proofs.Edges.{part-le-range}
-use Rattle.qs_core.proofs.Totals.{few_for_places, sum_by-turned, sum_by-within}
-use Rattle.qs_core.proofs.Counts.{Contains-first, Contains-from_get, Contains-later, Contains-nil, count_by-take_suc, counted, each_cons, get_from_Contains, one_if, one_if-same, share-le}
-use Rattle.qs_core.proofs.Views.{part-le-sum_by, sum_by-views}
+use Rattle.qs_core.proofs.Views.{IsView-view_at, part-le-sum_by, sum_by-views}
 
 -- how often some chains lock and raise a cell
 abbrev pub lock_count : ℕ → List Chain → ℕ
@@ -20,33 +23,23 @@ lock_count cell chains = count_by (λ (c : Chain). eqb c.cell cell) chains
 abbrev pub raise_count : Shape → ℕ → List Chain → ℕ
 raise_count shape cell chains = sum_by (λ (c : Chain). count_by (λ a. eqb a cell) (take c.raises (ancestors shape c.cell))) chains
 
--- what a sound state keeps of its cells
-pub record IsSoundCells (shape : Shape) (core : Core) : Type 0 where
-  pub cell_words : (cell : ℕ) → cell < length shape.parents
-      → slice_index core.words (cell_word shape cell) ≡ locks_of cell core.views + 2 * raises_of shape cell core.views
-  pub one_lock : (cell : ℕ) → locks_of cell core.views ≤ 1
-  pub chains : (seat : ℕ) (view : View) → IsView core seat view → AreChains shape core view
+-- one more before them locks its cell, and raises nothing where it has no raises
+pub locks_more : (c : ℕ) (chain : Chain) (chains : List Chain) → lock_count c (chain ∷ chains) ≡ one_if chain.cell c + lock_count c chains
+locks_more c chain chains = sum_by-cons (λ (x : Chain). one_if x.cell c) chain chains
 
--- the laws of a list of chains beside the views
-pub record AreListed (shape : Shape) (views : List View) (chains : List Chain) : Type 0 where
-  pub few : length chains ≤ 2
-  pub cells : (chain : Chain) → Contains chains chain → (chain.cell < length shape.parents) × (chain.raises ≤ length (ancestors shape chain.cell))
-  pub older : (chain : Chain) → slice_get chains 1 ≡ Some chain → IsComplete shape chain
-  pub unmarked : (chain : Chain) → Contains chains chain → (k : ℕ) → k < chain.raises → (IsMarked chain k → ⊥) → locks_of (ancestor_at shape chain k) views ≡ 0
+pub raises_same : (shape : Shape) (c : ℕ) (chain : Chain) (chains : List Chain) → chain.raises ≡ 0 → raise_count shape c (chain ∷ chains) ≡ raise_count shape c chains
+raises_same shape c chain chains none =
+    let a = sum_by-cons (λ (x : Chain). count_by (λ a. eqb a c) (take x.raises (ancestors shape x.cell))) chain chains in
+    let b : count_by (λ a. eqb a c) (take chain.raises (ancestors shape chain.cell)) ≡ 0 = ap (λ r. count_by (λ a. eqb a c) (take r (ancestors shape chain.cell))) none in
+    omega arith
 
-pub listed : (shape : Shape) (core : Core) (view : View) → AreChains shape core view → AreListed shape core.views view.chains
-listed shape core view a = record { few = a.few; cells = a.cells; older = a.older; unmarked = λ chain h k. a.unmarked chain k h }
-
-pub from_listed : (shape : Shape) (core : Core) (view : View) → AreListed shape core.views view.chains → AreChains shape core view
-from_listed shape core view a = record { few = a.few; cells = a.cells; older = a.older; unmarked = λ chain k h. a.unmarked chain h k }
-
--- a view that holds nothing keeps them
-pub empty_chains : (shape : Shape) (core : Core) → AreChains shape core empty_view
-empty_chains shape core = record {
+-- no chains keep their laws
+pub no_chains : (shape : Shape) (views : List View) → AreChains shape views []
+no_chains shape views = record {
   few = omega arith;
   cells = λ chain c. absurd (Contains-nil chain c);
   older = λ chain e. absurd (none-some chain e);
-  unmarked = λ chain k c. absurd (Contains-nil chain c);
+  unmarked = λ chain c. absurd (Contains-nil chain c);
 }
 
 -- what these chains have raised and nothing locked still isn't locked
@@ -54,25 +47,25 @@ abbrev pub StaysFree : Shape → List View → List View → List Chain → Type
 StaysFree shape views after chains =
     (chain : Chain) (k : ℕ) → Contains chains chain → k < chain.raises → locks_of (ancestor_at shape chain k) views ≡ 0 → locks_of (ancestor_at shape chain k) after ≡ 0
 
-pub AreListed-still : (shape : Shape) (views after : List View) (chains : List Chain) → StaysFree shape views after chains → AreListed shape views chains → AreListed shape after chains
-AreListed-still shape views after chains free a =
+pub AreChains-still : (shape : Shape) (views after : List View) (chains : List Chain) → StaysFree shape views after chains → AreChains shape views chains → AreChains shape after chains
+AreChains-still shape views after chains free a =
     record { few = a.few; cells = a.cells; older = a.older; unmarked = λ chain h k l n. free chain k h l (a.unmarked chain h k l n) }
 
 -- a new chain before complete ones
-pub AreListed-lock : (shape : Shape) (views : List View) (new : Chain) (chains : List Chain) → new.raises ≡ 0 → new.cell < length shape.parents → length chains < 2
-    → ((chain : Chain) → Contains chains chain → IsComplete shape chain) → AreListed shape views chains → AreListed shape views (new ∷ chains)
-AreListed-lock shape views new chains none cell few complete a = record {
+pub AreChains-lock : (shape : Shape) (views : List View) (new : Chain) (chains : List Chain) → new.raises ≡ 0 → new.cell < length shape.parents → length chains < 2
+    → ((chain : Chain) → Contains chains chain → IsComplete shape chain) → AreChains shape views chains → AreChains shape views (new ∷ chains)
+AreChains-lock shape views new chains none cell few complete a = record {
   few = omega arith;
   cells = each_cons (λ (c : Chain). (c.cell < length shape.parents) × (c.raises ≤ length (ancestors shape c.cell))) new chains (cell, omega arith) a.cells;
-  older = λ chain e. complete chain (Contains-from_get chains 0 chain e);
+  older = λ chain e. complete chain (Contains-from_slice_get chains 0 chain e);
   unmarked = each_cons (λ (c : Chain). (k : ℕ) → k < c.raises → (IsMarked c k → ⊥) → locks_of (ancestor_at shape c k) views ≡ 0) new chains
       (λ k l n. absurd (omega arith)) a.unmarked;
 }
 
 -- another chain of the same cell in the place of the newest
-pub AreListed-change : (shape : Shape) (views : List View) (old new : Chain) (older : List Chain) → new.cell ≡ old.cell → new.raises ≤ length (ancestors shape new.cell)
-    → ((k : ℕ) → k < new.raises → (IsMarked new k → ⊥) → locks_of (ancestor_at shape new k) views ≡ 0) → AreListed shape views (old ∷ older) → AreListed shape views (new ∷ older)
-AreListed-change shape views old new older same within unmarked a = record {
+pub AreChains-change : (shape : Shape) (views : List View) (old new : Chain) (older : List Chain) → new.cell ≡ old.cell → new.raises ≤ length (ancestors shape new.cell)
+    → ((k : ℕ) → k < new.raises → (IsMarked new k → ⊥) → locks_of (ancestor_at shape new k) views ≡ 0) → AreChains shape views (old ∷ older) → AreChains shape views (new ∷ older)
+AreChains-change shape views old new older same within unmarked a = record {
   few = a.few;
   cells = each_cons (λ (c : Chain). (c.cell < length shape.parents) × (c.raises ≤ length (ancestors shape c.cell))) new older
       (subst (λ c. c < length shape.parents) (sym same) (a.cells old (0, omega arith, refl)).0, within) (λ c h. a.cells c (Contains-later old older c h));
@@ -82,8 +75,8 @@ AreListed-change shape views old new older same within unmarked a = record {
 }
 
 -- without the newest
-pub AreListed-rest : (shape : Shape) (views : List View) (old : Chain) (older : List Chain) → AreListed shape views (old ∷ older) → AreListed shape views older
-AreListed-rest shape views old older a = record {
+pub AreChains-rest : (shape : Shape) (views : List View) (old : Chain) (older : List Chain) → AreChains shape views (old ∷ older) → AreChains shape views older
+AreChains-rest shape views old older a = record {
   few = let f = a.few in omega arith;
   cells = λ c h. a.cells c (Contains-later old older c h);
   older = λ c e. let f = a.few in let l = slice_get_within older 1 c e in absurd (omega arith);
@@ -91,26 +84,29 @@ AreListed-rest shape views old older a = record {
 }
 
 -- the newest chain and the others
-first_and_rest : (d : Chain) (xs : List Chain) → (xs ≡ [] → ⊥) → xs ≡ or_else d (slice_get xs 0) ∷ rest xs
+first_and_rest : (d : Chain) (xs : List Chain) → (xs ≡ [] → ⊥) → xs ≡ unwrap_or (slice_get xs 0) d ∷ rest xs
 first_and_rest d [] n = absurd (n refl)
 first_and_rest d (x ∷ xs) n = refl
 
 pub newest_and_rest : (view : View) → view.chains ≢ [] → view.chains ≡ newest view ∷ rest view.chains
 newest_and_rest view n = first_and_rest no_chain view.chains n
 
+-- so its laws and those of the others are those of a seat's view
+pub newest_chains : (shape : Shape) (core : Core) (seat : ℕ) → seat < length core.views → AreCellsSound shape core → (view_at core.views seat).chains ≢ []
+    → AreChains shape core.views (newest (view_at core.views seat) ∷ rest (view_at core.views seat).chains)
+newest_chains shape core seat l s some =
+    let view = view_at core.views seat in subst (AreChains shape core.views) (newest_and_rest view some) (s.chains seat view (IsView-view_at core seat l))
+
 -- the newest is of a cell, with no more raises than there are ancestors
-pub newest_is : (shape : Shape) (core : Core) (view : View) → AreChains shape core view → view.chains ≢ []
-    → ((newest view).cell < length shape.parents) × ((newest view).raises ≤ length (ancestors shape (newest view).cell))
-newest_is shape core view chains some =
-    chains.cells (newest view) (subst (λ cs. Contains cs (newest view)) (sym (newest_and_rest view some)) (Contains-first (newest view) (rest view.chains)))
+pub newest_is : (shape : Shape) (core : Core) (seat : ℕ) → seat < length core.views → AreCellsSound shape core → (view_at core.views seat).chains ≢ []
+    → ((newest (view_at core.views seat)).cell < length shape.parents) × ((newest (view_at core.views seat)).raises ≤ length (ancestors shape (newest (view_at core.views seat)).cell))
+newest_is shape core seat l s some =
+    let view = view_at core.views seat in (newest_chains shape core seat l s some).cells (newest view) (Contains-head (newest view) (rest view.chains))
 
 -- another chain of the same cell in the place of the newest locks as it did
 pub locks_changed : (c : ℕ) (old new : Chain) (older : List Chain) → new.cell ≡ old.cell → lock_count c (new ∷ older) ≡ lock_count c (old ∷ older)
 locks_changed c old new older same =
-    let a = sum_by-cons (λ (x : Chain). one_if x.cell c) new older in
-    let b = sum_by-cons (λ (x : Chain). one_if x.cell c) old older in
-    let d = ap (λ x. one_if x c) same in
-    omega arith
+    locks_more c new older ∙ ap (λ x. one_if x c + lock_count c older) same ∙ sym (locks_more c old older)
 
 -- and raises one ancestor more, where it has raised one more
 pub raises_changed : (shape : Shape) (c : ℕ) (old new : Chain) (older : List Chain) → new.cell ≡ old.cell → new.raises ≡ suc old.raises
@@ -161,7 +157,7 @@ raise_count-le : (shape : Shape) → IsShape shape → (cell : ℕ) (chains : Li
     → raise_count shape cell chains ≤ sum_by (λ k. lock_count k chains) (range_with_len 0 (length shape.parents))
 raise_count-le shape is cell chains within =
     let cells = range_with_len 0 (length shape.parents) in
-    let a = sum_by-within (λ (c : Chain). count_by (λ a. eqb a cell) (take c.raises (ancestors shape c.cell))) (λ (c : Chain). sum_by (one_if c.cell) cells) chains
+    let a = sum_by-le_each (λ (c : Chain). count_by (λ a. eqb a cell) (take c.raises (ancestors shape c.cell))) (λ (c : Chain). sum_by (one_if c.cell) cells) chains
     (λ c h.
     let once = raised_once shape is c.cell cell c.raises in
     let here = part-le-range (one_if c.cell) c.cell (length shape.parents) (within c h) in
@@ -171,7 +167,7 @@ raise_count-le shape is cell chains within =
     omega arith
 
 -- a cell is raised no more often than there are cells, since one chain at most locks each
-pub raises_few : (shape : Shape) (core : Core) → IsShape shape → IsSoundCells shape core → (cell : ℕ) → raises_of shape cell core.views ≤ length shape.parents
+pub raises_few : (shape : Shape) (core : Core) → IsShape shape → AreCellsSound shape core → (cell : ℕ) → raises_of shape cell core.views ≤ length shape.parents
 raises_few shape core is s cell =
     few_for_places (λ (v : View). raise_count shape cell v.chains) (λ (v : View) (k : ℕ). lock_count k v.chains) core.views (length shape.parents)
     (λ v h. let w = get_from_Contains core.views v h in raise_count-le shape is cell v.chains (λ c g. ((s.chains w.0 v (record { is = w.1 })).cells c g).0))

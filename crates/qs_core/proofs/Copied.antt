@@ -1,34 +1,27 @@
 -- Lists copied one element after another, and the opening state made of such lists.
-use Rattle.std.proofs.Common.{◌≡◌, ℕ, suc, ◌+◌, ◌<◌, ◌≤◌, List, [], ◌∷◌, ◌++◌, length, take, map, replicate, slice_get, Option, None, sym, ap, ap₂, subst, ◌∙◌, arith, append_assoc, append-nil}
+use Rattle.std.proofs.Common.{◌≡◌, ℕ, ◌+◌, ◌<◌, List, [], ◌∷◌, ◌++◌, length, take, map, replicate, slice_get, Option, None, sym, ap, ap₂, subst, ◌∙◌, arith, append_assoc}
+use Rattle.std.proofs.lemmas.Option.{unwrap_or-slice_get}
+use Rattle.std.specs.Prelude.{unwrap_or}
 use Rattle.std.specs.List.{range_with_len}
-use Rattle.std.proofs.lemmas.List.{take_more, take_all, length-replicate, replicate-append-replicate}
+use Rattle.std.proofs.lemmas.List.{take_more, length-replicate}
 use Rattle.std.proofs.lemmas.List.FromFn.{map-range_with_len_more}
 use Rattle.qs_core.specs.declared.event.Note.{Note}
-use Rattle.qs_core.specs.Shape.{Shape, IsShape, TaskShape, edges_into, or_else, shape_of}
+use Rattle.qs_core.specs.Shape.{Shape, IsShape, TaskShape, edges_into}
 use Rattle.qs_core.specs.Core.{View, empty_view, opening}
-use Rattle.qs_core.specs.Machine.{IsMachine, machine_of, made}
+use Rattle.qs_core.specs.Machine.{IsMachine, made}
+use Rattle.qs_core.specs.inner.Stored.{machine_of, shape_of}
 use Rattle.qs_core.proofs.Opening.{opening_is_sound}
-use Rattle.qs_core.proofs.Views.{or_else-get_or}
 
 -- one more element, and all
-pub copied_more : {X : Type 0} (d : X) (xs items new : List X) (i : ℕ) (x : X) → i < length xs → x ≡ or_else d (slice_get xs i) → new ≡ items ++ x ∷ [] → items ≡ take i xs
+pub copied_more : {X : Type 0} (d : X) (xs items new : List X) (i : ℕ) (x : X) → i < length xs → x ≡ unwrap_or (slice_get xs i) d → new ≡ items ++ x ∷ [] → items ≡ take i xs
     → new ≡ take (i + 1) xs
 copied_more d xs items new i x l e n is =
-    let same = e ∙ or_else-get_or d xs i in
+    let same = e ∙ unwrap_or-slice_get xs i d in
     n ∙ ap₂ (λ a b. a ++ b ∷ []) is same ∙ sym (take_more xs i d l)
-
-pub copied_all : {X : Type 0} (xs items : List X) (i : ℕ) → length xs ≤ i → items ≡ take i xs → items ≡ xs
-copied_all xs items i l is = is ∙ take_all i xs l
 
 -- the words of the cells, of the leaves and of the first tasks
 abbrev pub words_to : Shape → ℕ → List ℕ
 words_to shape n = 0 ∷ replicate (length shape.parents) 0 ++ replicate shape.leaves 0 ++ map (edges_into shape) (range_with_len 0 n)
-
-pub words_none : (shape : Shape) (count : ℕ) (items : List ℕ) → count ≡ 1 + length shape.parents + shape.leaves → items ≡ replicate count 0 → items ≡ words_to shape 0
-words_none shape count items c e =
-    let n : count ≡ suc (length shape.parents) + shape.leaves = omega arith in
-    e ∙ ap (λ k. replicate k 0) n ∙ sym (replicate-append-replicate (suc (length shape.parents)) shape.leaves 0)
-    ∙ sym (append-nil (0 ∷ replicate (length shape.parents) 0 ++ replicate shape.leaves 0))
 
 pub words_more : (shape : Shape) (task waits : ℕ) (items new : List ℕ) → waits ≡ edges_into shape task → new ≡ items ++ waits ∷ [] → items ≡ words_to shape task → new ≡ words_to shape (task + 1)
 words_more shape task waits items new w n is =
@@ -48,11 +41,6 @@ made_is shape seats is = record {
 pub made_of_lists : (shape layout : Shape) (seats : ℕ) (words : List ℕ) (views : List View) (notes : List (Option Note)) → layout ≡ shape → words ≡ (opening shape seats).words
     → views ≡ replicate seats empty_view → notes ≡ replicate seats None → machine_of layout words views notes ≡ made shape seats
 made_of_lists shape layout seats words views notes l w v n = λ i. machine_of (l i) (w i) (v i) (n i)
-
--- a task by its fields
-pub task_by_fields : (t : TaskShape) (first : ℕ) (second : Option ℕ) (successors : List ℕ) (weight : ℕ) → first ≡ t.first → second ≡ t.second → successors ≡ t.successors → weight ≡ t.weight
-    → record { first = first; second = second; successors = successors; weight = weight } ≡ t
-task_by_fields t first second successors weight f s u w = λ i. record { first = f i; second = s i; successors = u i; weight = w i }
 
 -- the laws of the lists
 pub listed_is : (shape : Shape) (parents : List (Option ℕ)) (ranges : List (ℕ × ℕ)) (leaves : ℕ) (tasks : List TaskShape) → parents ≡ shape.parents → ranges ≡ shape.ranges → leaves ≡ shape.leaves

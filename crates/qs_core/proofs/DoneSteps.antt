@@ -1,19 +1,20 @@
 -- On which leaves tasks are done after a step.
-use Rattle.std.proofs.Common.{◌≡◌, ◌≢◌, ◌⊎◌, ◌↔◌, ℕ, ◌<◌, ◌==◌, eqb, List, [], ◌∷◌, length, slice_index, slice_set, count_by, Contains, Option, Some, None, refl, sym, ap, ◌∙◌, subst, inl, inr, arith, length-set}
-use Rattle.std.proofs.lemmas.Bool.{cases_eq, cases_lt, cond-true, cond-false, cond_both, eq-eqb, eqb-true, ne_eqb}
+use Rattle.std.proofs.Common.{◌≡◌, ◌≢◌, ◌⊎◌, ◌↔◌, ℕ, ◌<◌, ◌==◌, List, [], ◌∷◌, length, slice_index, slice_set, Contains, Option, Some, None, refl, sym, ap, ◌∙◌, subst, inl, inr, arith, length-set}
+use Rattle.std.proofs.lemmas.Bool.{cases_eq, cond-true, cond-false, cond_both, eq-eqb, eqb-true, ne_eqb}
 use Rattle.std.proofs.lemmas.Option.{slice_get_within}
+use Rattle.lists.proofs.Elements.{Contains-nil}
 use Rattle.qs_core.specs.declared.event.Event.{Event}
 use Rattle.qs_core.specs.declared.event.Step.{Step}
 use Rattle.qs_core.specs.declared.event.Step.TheVariants.{Lock, Raise, Lower, Unlock, Fetch, Return, Claim, Release}
 use Rattle.qs_core.specs.Shape.{Shape, IsShape, Touches}
-use Rattle.qs_core.specs.Core.{Core, Running, View, cell_word, claimed_word, task_word, view_at}
+use Rattle.qs_core.specs.Core.{Core, Running, View, cell_place, claimed_word, task_place, view_at}
 use Rattle.qs_core.specs.Steps.{Allowed, IsAllowed, after_release, after_return, effect, exchanged, rest, seen_by, stepped, unless_over, view_after, without}
 use Rattle.qs_core.specs.Sound.{IsClaimed, IsDone, IsSound}
 use Rattle.qs_core.specs.Runs.{ReturnsWork}
 use Rattle.qs_core.specs.Laws.{StepsChangeDone}
-use Rattle.qs_core.specs.Held.{RunsOn}
+use Rattle.qs_core.specs.inner.Held.{RunsOn}
 use Rattle.qs_core.proofs.Claims.{claimed_stays}
-use Rattle.qs_core.proofs.Counts.{Contains-from_count, Contains-nil, Contains-without, count-pos, without_keeps}
+use Rattle.qs_core.proofs.Without.{Contains-without, without_keeps}
 use Rattle.qs_core.proofs.LocksLock.{with_lock}
 use Rattle.qs_core.proofs.Played.{runs_some}
 use Rattle.qs_core.proofs.RunningClaim.{claiming}
@@ -21,6 +22,7 @@ use Rattle.qs_core.proofs.RunningKept.{same_words}
 use Rattle.qs_core.proofs.RunningRelease.{claimed_before_release}
 use Rattle.qs_core.proofs.Tasks.{word-other, word-same}
 use Rattle.qs_core.proofs.Views.{IsView-view_at, view_at-changed_other, view_at-changed_same, view_at_is}
+use Rattle.lists.proofs.Counts.{cases_Contains}
 
 -- some view runs the task with the leaf left
 record IsLeft (views : List View) (task leaf : ℕ) : Type 0 where
@@ -47,20 +49,12 @@ none_where_done shape core task leaf done left =
     let r = runs_some view.running task leaf left.runs in
     done.none_left left.seat view r.running (IsView-view_at core left.seat left.within) (record { is = r.is; of_task = r.of_task }) r.left
 
--- a list has a number or hasn't
-Contains-cases : (xs : List ℕ) (x : ℕ) → Contains xs x ⊎ (Contains xs x → ⊥)
-Contains-cases xs x =
-    elim (cases_lt 0 (count_by (λ y. eqb y x) xs)) [
-      | inl some ↦ inl (Contains-from_count xs x some)
-      | inr none ↦ inr (λ c. let p = count-pos xs x c in omega arith)
-    ]
-
 -- a task runs with a leaf left or doesn't
 RunsOn-cases : (old : Option Running) (task leaf : ℕ) → RunsOn old task leaf ⊎ (RunsOn old task leaf → ⊥)
 RunsOn-cases None task leaf = inr (λ r. r)
 RunsOn-cases (Some running) task leaf =
     elim (cases_eq running.task task) [
-      | inl e ↦ elim (Contains-cases running.leaves leaf) [ inl c ↦ inl (e, c) | inr n ↦ inr (λ r. n r.1) ]
+      | inl e ↦ elim (cases_Contains running.leaves leaf) [ inl c ↦ inl (e, c) | inr n ↦ inr (λ r. n r.1) ]
       | inr n ↦ inr (λ r. n r.0)
     ]
 
@@ -96,7 +90,7 @@ module _ (shape : Shape) (core : Core) (seat task leaf : ℕ) (is : IsShape shap
   -- where a claimed task runs after a step with the leaf left, it did before
   came_left : (step : Step) → Allowed shape view step → IsClaimed shape core task → RunsOn (new_view shape core seat step).running task leaf → RunsOn view.running task leaf
   came_left (Lock cell) can c r =
-      cond_both (slice_index core.words (cell_word shape cell) == 0)
+      cond_both (slice_index core.words (cell_place shape cell) == 0)
       (with_lock view cell) view
       (λ (w : View). RunsOn w.running task leaf → RunsOn view.running task leaf) (λ _ q. q) (λ _ q. q) r
   came_left Raise can c r = r
@@ -105,11 +99,11 @@ module _ (shape : Shape) (core : Core) (seat task leaf : ℕ) (is : IsShape shap
   came_left (Fetch out) can c r = r
   came_left (Return back) can c r = ((RunsOn-return view.running back task leaf).0 r).0
   came_left (Claim t) can c r =
-      cond_both (slice_index core.words (task_word shape t) == 0)
+      cond_both (slice_index core.words (task_place shape t) == 0)
       (claiming shape view t) view
       (λ (w : View). RunsOn w.running task leaf → RunsOn view.running task leaf)
       (λ e q.
-      let zero_seen = eqb-true (slice_index core.words (task_word shape t)) 0 e in
+      let zero_seen = eqb-true (slice_index core.words (task_place shape t)) 0 e in
       let claimed = subst (IsClaimed shape core) (sym q.0) c in
       absurd (omega arith))
       (λ _ q. q) r
@@ -118,7 +112,7 @@ module _ (shape : Shape) (core : Core) (seat task leaf : ℕ) (is : IsShape shap
   -- where a task runs with the leaf left it does after the step, or the step returns the leaf
   stays_left : (step : Step) → Allowed shape view step → RunsOn view.running task leaf → RunsOn (new_view shape core seat step).running task leaf ⊎ (step ≡ Return leaf)
   stays_left (Lock cell) can r =
-      inl (cond_both (slice_index core.words (cell_word shape cell) == 0)
+      inl (cond_both (slice_index core.words (cell_place shape cell) == 0)
       (with_lock view cell) view
       (λ (w : View). RunsOn w.running task leaf) (λ _. r) (λ _. r))
   stays_left Raise can r = inl r
@@ -138,14 +132,14 @@ module _ (shape : Shape) (core : Core) (seat task leaf : ℕ) (is : IsShape shap
       → IsClaimed shape core task ⊎ (Touches shape task leaf → RunsOn (new_view shape core seat step).running task leaf)
   claimed_or_starts (Claim t) can c =
       elim (cases_eq task t) [
-        | inr n ↦ inl (sym (word-other shape core.words (task_word shape t) _ task (λ e. n (omega arith))) ∙ c)
-        | inl e ↦ elim (cases_eq (slice_index core.words (task_word shape t)) 0) [
+        | inr n ↦ inl (sym (word-other shape core.words (task_place shape t) _ task (λ e. n (omega arith))) ∙ c)
+        | inl e ↦ elim (cases_eq (slice_index core.words (task_place shape t)) 0) [
           | inl zero_seen ↦
-              let made : new_view shape core seat (Claim t) ≡ claiming shape view t = cond-true (slice_index core.words (task_word shape t) == 0) (claiming shape view t) view (eq-eqb _ 0 zero_seen) in
+              let made : new_view shape core seat (Claim t) ≡ claiming shape view t = cond-true (slice_index core.words (task_place shape t) == 0) (claiming shape view t) view (eq-eqb _ 0 zero_seen) in
               inr (λ touches. subst (λ (w : View). RunsOn w.running task leaf) (sym made) (sym e, subst (λ x. Touches shape x leaf) e touches))
           | inr n ↦
-              let value = exchanged (Claim t) (slice_index core.words (task_word shape t)) in
-              let kept : value ≡ slice_index core.words (task_word shape t) = cond-false (slice_index core.words (task_word shape t) == 0) claimed_word (slice_index core.words (task_word shape t)) (ne_eqb _ 0 n) in
+              let value = exchanged (Claim t) (slice_index core.words (task_place shape t)) in
+              let kept : value ≡ slice_index core.words (task_place shape t) = cond-false (slice_index core.words (task_place shape t) == 0) claimed_word (slice_index core.words (task_place shape t)) (ne_eqb _ 0 n) in
               let written = word-same shape core value t sound can.is_task in
               let now : IsClaimed shape (stepped shape core seat (Claim t)) t = subst (IsClaimed shape (stepped shape core seat (Claim t))) e c in
               inl (subst (IsClaimed shape core) (sym e) (sym kept ∙ sym written ∙ now))
@@ -210,7 +204,7 @@ module _ (shape : Shape) (core : Core) (event : Event) (task leaf : ℕ) (is : I
             ((RunsOn-return (view_at core.views event.seat).running leaf task leaf).0 back).1 refl
         | inr n ↦
             let r = runs_some (view_at core.views left.seat).running task leaf (elsewhere left n) in
-            n (sound.one_runs left.seat event.seat task (view_at core.views left.seat) (view_at core.views event.seat) r.running returns.running (IsView-view_at core left.seat (within left))
+            n (sound.tasks.one_runs left.seat event.seat task (view_at core.views left.seat) (view_at core.views event.seat) r.running returns.running (IsView-view_at core left.seat (within left))
             (IsView-view_at core event.seat allowed.seat) (record { is = r.is; of_task = r.of_task }) returns.runs)
       ]
 
@@ -242,7 +236,7 @@ module _ (shape : Shape) (core : Core) (event : Event) (task leaf : ℕ) (is : I
   -- and so is one for which the leaf is returned
   returned_done : task < length shape.tasks → ReturnsWork core event task leaf → IsDone shape (effect shape core event) task leaf
   returned_done l returns =
-      let runs = sound.runs event.seat (view_at core.views event.seat) returns.running (IsView-view_at core event.seat allowed.seat) returns.runs.is in
+      let runs = sound.tasks.runs event.seat (view_at core.views event.seat) returns.running (IsView-view_at core event.seat allowed.seat) returns.runs.is in
       let touches : Touches shape task leaf = subst (λ t. Touches shape t leaf) returns.runs.of_task ((runs.leaves leaf).0 returns.left) in
       let claimed : IsClaimed shape core task = subst (IsClaimed shape core) returns.runs.of_task runs.claimed in
       done_where shape (effect shape core event) task leaf touches (claimed_stays shape core event task is sound allowed l claimed) (returned_none returns)

@@ -1,13 +1,14 @@
 -- What holds of every list of events, from the law of one step.
-use Rattle.std.proofs.Common.{◌≡◌, ℕ, zero, suc, ◌<◌, List, [], ◌∷◌, ◌++◌, length, slice_get, slice_index, Contains, refl, subst, arith}
+use Rattle.std.proofs.Common.{◌≡◌, ℕ, zero, suc, ◌<◌, List, [], ◌∷◌, ◌++◌, length, slice_get, slice_index, Contains, refl, sym, ap, ◌∙◌, subst, arith}
+use Rattle.std.specs.Prelude.{unwrap_or}
+use Rattle.lists.proofs.Elements.{Contains-nil}
 use Rattle.qs_core.specs.declared.event.Event.{Event}
-use Rattle.qs_core.specs.Shape.{Shape, TaskShape, IsEdge, IsShape, IsPath, Touches, no_task, or_else}
-use Rattle.qs_core.specs.Core.{Core, opening, task_word, claimed_word}
-use Rattle.qs_core.specs.Steps.{effect}
+use Rattle.qs_core.specs.Shape.{Shape, TaskShape, IsEdge, IsShape, IsPath, Touches, no_task}
+use Rattle.qs_core.specs.Core.{Core, opening, task_place, claimed_word}
+use Rattle.qs_core.specs.Steps.{IsAllowed, effect}
 use Rattle.qs_core.specs.Sound.{IsSound, IsClaimed, IsDone}
 use Rattle.qs_core.specs.Runs.{IsRun, after_events}
-use Rattle.qs_core.specs.Laws.{StepsKeepSound, SoundIsExclusive, SoundIsInOrder, RunsAreSound, ClaimedOnce, ClaimedInOrder, AllAreDone}
-use Rattle.qs_core.proofs.Counts.{Contains-nil}
+use Rattle.qs_core.specs.Laws.{AllAreDone, ClaimedInOrder, ClaimedOnce, MadeIsReached, PlayedIsReached, RunsAreSound, SoundIsExclusive, SoundIsInOrder, StepsKeepSound}
 use Rattle.qs_core.proofs.Opening.{opening_is_sound}
 use Rattle.qs_core.proofs.Claims.{claimed_stays, claimed_by, same_before_claim}
 
@@ -30,6 +31,24 @@ run-rest shape core (event ∷ events) more r = run-rest shape (effect shape cor
 pub after-append : (shape : Shape) (core : Core) (events more : List Event) → after_events shape core (events ++ more) ≡ after_events shape (after_events shape core events) more
 after-append shape core [] more = refl
 after-append shape core (event ∷ events) more = after-append shape (effect shape core event) events more
+
+-- a run, and one from its last state, make a run
+run-append : (shape : Shape) (core : Core) (events more : List Event) → IsRun shape core events → IsRun shape (after_events shape core events) more → IsRun shape core (events ++ more)
+run-append shape core [] more r q = q
+run-append shape core (event ∷ events) more r q = (r.0, run-append shape (effect shape core event) events more r.1 q)
+
+-- a machine that is made is reached by no events
+pub made_is_reached : MadeIsReached
+made_is_reached shape seats = record { run = tt; state = refl }
+
+-- and one that plays an allowed event by one event more
+pub played_is_reached : PlayedIsReached
+played_is_reached m seats events event reached allowed =
+    let start = opening m.shape seats in
+    record {
+      run = run-append m.shape start events (event ∷ []) reached.run (subst (λ (c : Core). IsAllowed m.shape c event) (sym reached.state) allowed, tt);
+      state = after-append m.shape start events (event ∷ []) ∙ ap (λ (c : Core). effect m.shape c event) reached.state;
+    }
 
 -- each state of a run is sound and exclusive, where steps keep a state sound and sound states are exclusive
 pub runs_are_sound_from : StepsKeepSound → SoundIsExclusive → RunsAreSound
@@ -54,7 +73,7 @@ claimed_once_from kept shape seats task events more event other s first second =
     let run = run-rest shape start events (event ∷ more) whole in
     let claimed = claimed_by shape middle event task sound run.0 first.is_task first.claims in
     let later = claimed-after kept shape (effect shape middle event) more task s (kept shape middle event s sound run.0) run.1 first.is_task claimed in
-    let e : slice_index (after_events shape start (events ++ event ∷ more)).words (task_word shape task) ≡ claimed_word = rw (after-append shape start events (event ∷ more)) later in
+    let e : slice_index (after_events shape start (events ++ event ∷ more)).words (task_place shape task) ≡ claimed_word = rw (after-append shape start events (event ∷ more)) later in
     let z = second.claims.ready in
     absurd (omega arith)
 
@@ -62,7 +81,7 @@ claimed_once_from kept shape seats task events more event other s first second =
 edge-from : (shape : Shape) (before after : ℕ) → IsEdge shape before after → before < length shape.tasks
 edge-from shape before after e = go shape.tasks before e
   where
-    go : (tasks : List TaskShape) (k : ℕ) → Contains (or_else no_task (slice_get tasks k)).successors after → k < length tasks
+    go : (tasks : List TaskShape) (k : ℕ) → Contains (unwrap_or (slice_get tasks k) no_task).successors after → k < length tasks
     go [] k c = absurd (Contains-nil after c)
     go (task ∷ tasks) zero c = omega arith
     go (task ∷ tasks) (suc k) c = let l = go tasks k c in omega arith
@@ -82,9 +101,9 @@ path-up shape before (task ∷ path) after s p =
 -- in a sound state each task before a claimed one is claimed, and done
 path-done : (shape : Shape) (core : Core) (before : ℕ) (path : List ℕ) (after leaf : ℕ) → IsShape shape → IsSound shape core → IsPath shape before path after
     → IsClaimed shape core after → IsClaimed shape core before × (Touches shape before leaf → IsDone shape core before leaf)
-path-done shape core before [] after leaf s sound p c = sound.in_order before after leaf (edge-from shape before after p) (edge-up shape before after s p).1 p c
+path-done shape core before [] after leaf s sound p c = sound.tasks.in_order before after leaf (edge-from shape before after p) (edge-up shape before after s p).1 p c
 path-done shape core before (task ∷ path) after leaf s sound p c =
-    sound.in_order before task leaf (edge-from shape before task p.0) (edge-up shape before task s p.0).1 p.0 (path-done shape core task path after leaf s sound p.1 c).0
+    sound.tasks.in_order before task leaf (edge-from shape before task p.0) (edge-up shape before task s p.0).1 p.0 (path-done shape core task path after leaf s sound p.1 c).0
 
 -- the same where it precedes
 pub sound_is_in_order : SoundIsInOrder

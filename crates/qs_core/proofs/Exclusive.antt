@@ -2,12 +2,14 @@
 use Rattle.std.proofs.Common.{◌≡◌, ℕ, ◌<◌, length, slice_get, Contains, Some, sym, ap, subst, inl, inr, ◌∙◌, arith, true≢false}
 use Rattle.std.proofs.lemmas.List.{get_or_default}
 use Rattle.std.proofs.lemmas.Option.{same_Some}
+use Rattle.lists.proofs.Sums.{same_place}
+use Rattle.lists.proofs.Counts.{counted, one_if, one_if-same}
+use Rattle.lists.proofs.Places.{Contains-from_slice_get, get_from_Contains}
 use Rattle.qs_core.specs.Shape.{Shape, IsShape, AreApart, IsBelow, ancestors}
 use Rattle.qs_core.specs.Core.{Chain, Core, IsComplete, Owns, View}
-use Rattle.qs_core.specs.Sound.{AreChains, IsExclusive, IsMarked, IsSound, IsView, OwnsAt, locks_of}
+use Rattle.qs_core.specs.Sound.{AreCellsSound, AreChains, IsExclusive, IsMarked, IsView, OwnsAt, locks_of}
 use Rattle.qs_core.specs.Laws.{SoundIsExclusive}
-use Rattle.qs_core.proofs.Counts.{Contains-from_get, counted, get_from_Contains, one_if, one_if-same, same_place}
-use Rattle.qs_core.proofs.Chains.{IsSoundCells, lock_count, locks_its_cell}
+use Rattle.qs_core.proofs.Chains.{lock_count, locks_its_cell}
 use Rattle.qs_core.proofs.Views.{part-le-sum_by}
 
 -- a raise of a complete chain isn't marked
@@ -15,18 +17,18 @@ pub complete_unmarked : (shape : Shape) (chain : Chain) (k : ℕ) → IsComplete
 complete_unmarked shape chain k c m = true≢false (sym m.stopped ∙ c.free)
 
 -- an ancestor of an owned cell isn't locked
-pub above_is_free : (shape : Shape) (core : Core) (seat : ℕ) (view : View) (chain : Chain) (cell : ℕ) → AreChains shape core view → Contains view.chains chain → IsComplete shape chain
+pub above_is_free : (shape : Shape) (core : Core) (seat : ℕ) (view : View) (chain : Chain) (cell : ℕ) → AreChains shape core.views view.chains → Contains view.chains chain → IsComplete shape chain
     → Contains (ancestors shape chain.cell) cell → locks_of cell core.views ≡ 0
 above_is_free shape core seat view chain cell a h c (j, l, e) =
     let all = c.all_raised in
-    let free = a.unmarked chain j h (omega arith) (complete_unmarked shape chain j c) in
+    let free = a.unmarked chain h j (omega arith) (complete_unmarked shape chain j c) in
     subst (λ x. locks_of x core.views ≡ 0) (get_or_default (ancestors shape chain.cell) j 0 cell l ∙ e) free
 
-module _ (shape : Shape) (core : Core) (s : IsSoundCells shape core) where
+module _ (shape : Shape) (core : Core) (s : AreCellsSound shape core) where
   same_cell : (seat seat' k k' cell : ℕ) → OwnsAt shape core seat k cell → OwnsAt shape core seat' k' cell → (seat ≡ seat') × (k ≡ k')
   same_cell seat seat' k k' cell o o' =
-      let at = Contains-from_get o.view.chains k o.chain o.at in
-      let at' = Contains-from_get o'.view.chains k' o'.chain o'.at in
+      let at = Contains-from_slice_get o.view.chains k o.chain o.at in
+      let at' = Contains-from_slice_get o'.view.chains k' o'.chain o'.at in
       let seats : seat ≡ seat' =
       same_place (λ (v : View). lock_count cell v.chains) core.views seat seat' o.view o'.view o.is_view.is o'.is_view.is
       (counted (λ (c : Chain). c.cell) cell o.view.chains o.chain at o.of_cell) (counted (λ (c : Chain). c.cell) cell o'.view.chains o'.chain at' o'.of_cell)
@@ -43,10 +45,10 @@ module _ (shape : Shape) (core : Core) (s : IsSoundCells shape core) where
 
   not_above : (seat seat' k k' cell cell' : ℕ) → OwnsAt shape core seat k cell → OwnsAt shape core seat' k' cell' → Contains (ancestors shape cell') cell → ⊥
   not_above seat seat' k k' cell cell' o o' m =
-      let at' = Contains-from_get o'.view.chains k' o'.chain o'.at in
+      let at' = Contains-from_slice_get o'.view.chains k' o'.chain o'.at in
       let free = above_is_free shape core seat' o'.view o'.chain cell (s.chains seat' o'.view o'.is_view) at' o'.complete
       (subst (λ c. Contains (ancestors shape c) cell) (sym o'.of_cell) m) in
-      let locked = locks_its_cell core seat o.view o.chain cell o.is_view (Contains-from_get o.view.chains k o.chain o.at) o.of_cell in
+      let locked = locks_its_cell core seat o.view o.chain cell o.is_view (Contains-from_slice_get o.view.chains k o.chain o.at) o.of_cell in
       omega arith
 
   pub cells_are_exclusive : IsExclusive shape core
@@ -82,9 +84,6 @@ module _ (shape : Shape) (core : Core) (s : IsSoundCells shape core) where
   one_seat_each is seat seat' view view' cell cell' leaf v v' o o' b b' n =
       is.own_leaves cell cell' leaf (owned_is_cell seat view cell v o) (owned_is_cell seat' view' cell' v' o') (owned_apart seat seat' view view' cell cell' v v' n o o') b b'
 
--- what a sound state says of its cells
-pub sound_cells : (shape : Shape) (core : Core) → IsSound shape core → IsSoundCells shape core
-sound_cells shape core s = record { cell_words = s.cell_words; one_lock = s.one_lock; chains = s.chains }
-
+-- a sound state is exclusive
 pub sound_is_exclusive : SoundIsExclusive
-sound_is_exclusive shape core is s = cells_are_exclusive shape core (sound_cells shape core s)
+sound_is_exclusive shape core is s = cells_are_exclusive shape core s.locks.cells

@@ -1,10 +1,10 @@
 -- What a view owns, by the one cell or two of its chains.
 use Rattle.std.proofs.Common.{◌≡◌, ◌⊎◌, ◌↔◌, ℕ, Option, Some, None, refl, sym, ap, inl, inr, subst}
 use Rattle.std.proofs.lemmas.Option.{same_Some}
-use Rattle.qs_core.specs.Shape.{Shape, IsBelowSome, task_at}
+use Rattle.qs_core.specs.Shape.{Shape, task_at}
 use Rattle.qs_core.specs.Core.{Owns, View}
 use Rattle.qs_core.specs.Steps.{OwnsAbove, OwnsJust}
-use Rattle.qs_core.specs.Held.{AreJust, IsEither}
+use Rattle.qs_core.specs.inner.Held.{AreJust, IsBelowSome, IsEither}
 
 -- the cells that a view owns
 pub record AreOwned (shape : Shape) (view : View) (newest older : Option ℕ) : Type 0 where

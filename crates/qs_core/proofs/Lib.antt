@@ -3,9 +3,8 @@ pub mod Below
 pub mod Chains
 pub mod Claims
 pub mod Copied
-pub mod Counts
+pub mod Without
 pub mod DoneSteps
-pub mod Edges
 pub mod Events
 pub mod Exclusive
 pub mod FamilyMarks
@@ -17,6 +16,7 @@ pub mod LocksKept
 pub mod LocksLeaf
 pub mod LocksLock
 pub mod LocksLower
+pub mod LocksNewest
 pub mod LocksRaise
 pub mod LocksTask
 pub mod LocksUnlock
@@ -33,7 +33,6 @@ pub mod RunningLeaves
 pub mod RunningRelease
 pub mod RunningReturn
 pub mod Tasks
-pub mod Totals
 pub mod UnreleasedEdges
 pub mod Walks
 pub mod Views

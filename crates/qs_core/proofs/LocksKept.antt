@@ -6,8 +6,7 @@ use Rattle.qs_core.specs.declared.event.Step.TheVariants.{Lock, Raise, Lower, Un
 use Rattle.qs_core.specs.Shape.{Shape, IsShape}
 use Rattle.qs_core.specs.Core.{Core, view_at}
 use Rattle.qs_core.specs.Steps.{Allowed, IsAllowed, effect, stepped}
-use Rattle.qs_core.specs.Sound.{IsSound}
-use Rattle.qs_core.proofs.Locks.{IsSoundLocks, locks_of_sound}
+use Rattle.qs_core.specs.Sound.{AreLocksSound, IsSound}
 use Rattle.qs_core.proofs.LocksLock.{lock_kept}
 use Rattle.qs_core.proofs.LocksRaise.{raise_kept}
 use Rattle.qs_core.proofs.LocksLower.{lower_kept}
@@ -15,8 +14,8 @@ use Rattle.qs_core.proofs.LocksUnlock.{unlock_kept}
 use Rattle.qs_core.proofs.LocksLeaf.{fetch_kept, return_kept}
 use Rattle.qs_core.proofs.LocksTask.{claim_kept, release_kept}
 
-pub step_keeps_locks : (shape : Shape) (core : Core) (seat : ℕ) (step : Step) → IsShape shape → seat < length core.views → IsSoundLocks shape core
-    → Allowed shape (view_at core.views seat) step → IsSoundLocks shape (stepped shape core seat step)
+pub step_keeps_locks : (shape : Shape) (core : Core) (seat : ℕ) (step : Step) → IsShape shape → seat < length core.views → AreLocksSound shape core
+    → Allowed shape (view_at core.views seat) step → AreLocksSound shape (stepped shape core seat step)
 step_keeps_locks shape core seat (Lock cell) is l s can = lock_kept shape core seat cell l s can
 step_keeps_locks shape core seat Raise is l s can = raise_kept shape core seat is l s can
 step_keeps_locks shape core seat Lower is l s can = lower_kept shape core seat is l s can
@@ -27,5 +26,5 @@ step_keeps_locks shape core seat (Claim task) is l s can = claim_kept shape core
 step_keeps_locks shape core seat Release is l s can = release_kept shape core seat l s can
 
 pub locks_kept : (shape : Shape) (core : Core) (event : Event) → IsShape shape → IsSound shape core → IsAllowed shape core event
-    → IsSoundLocks shape (effect shape core event)
-locks_kept shape core event is s can = step_keeps_locks shape core event.seat event.step is can.seat (locks_of_sound shape core s) can.step
+    → AreLocksSound shape (effect shape core event)
+locks_kept shape core event is s can = step_keeps_locks shape core event.seat event.step is can.seat s.locks can.step

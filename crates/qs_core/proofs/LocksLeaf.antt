@@ -3,23 +3,26 @@ use Rattle.std.proofs.Common.{◌≡◌, ℕ, ◌+◌, ◌<◌, List, ◌∷◌,
 use Rattle.std.proofs.lemmas.Bool.{cases_eq}
 use Rattle.std.proofs.lemmas.Option.{none-some, same_Some, slice_get-get_or}
 use Rattle.std.proofs.lemmas.List.Sums.{sum_by-cons, sum_by-le}
+use Rattle.lists.proofs.Elements.{each_cons}
+use Rattle.lists.proofs.Counts.{count-pos, count-zero, one_if, one_if-other, one_if-same}
 use Rattle.qs_core.specs.declared.event.Step.TheVariants.{Fetch, Return}
 use Rattle.qs_core.specs.Shape.{Shape, IsShape}
-use Rattle.qs_core.specs.Core.{Core, Running, View, leaf_word, view_at}
+use Rattle.qs_core.specs.Core.{Core, Running, View, leaf_place, view_at}
 use Rattle.qs_core.specs.Steps.{CanFetch, CanReturn, MayFetch, after_return, stepped, without}
-use Rattle.qs_core.specs.Sound.{IsOut, IsView, outs_of}
-use Rattle.qs_core.proofs.Counts.{Contains-without, count-pos, count-zero, count_by-without, each_cons, one_if, one_if-other, one_if-same, without_keeps}
+use Rattle.qs_core.specs.Sound.{IsOut, IsView, outs_of, AreLocksSound}
+use Rattle.qs_core.proofs.Without.{Contains-without, count_by-without, without_keeps}
 use Rattle.qs_core.proofs.Exclusive.{one_seat_each}
-use Rattle.qs_core.proofs.Locks.{IsSoundLocks, cells_kept, cells_of_locks, joined, leaves_of_locks}
+use Rattle.qs_core.proofs.Locks.{cells_kept, from_parts}
 use Rattle.qs_core.proofs.Outs.{above_by_chains, leaves_moved, out_by_chains, out_count, outs_change}
 use Rattle.qs_core.proofs.Views.{IsView-view_at}
-use Rattle.qs_core.proofs.Running.{IsLeft-from}
+use Rattle.qs_core.proofs.Running.{IsGoing-from}
+use Rattle.qs_core.proofs.RunningReturn.{returning}
 
 -- the view with a leaf out
 abbrev with_leaf : View → ℕ → View
 with_leaf view leaf = record view { out = leaf ∷ view.out }
 
-module _ (shape : Shape) (core : Core) (seat leaf : ℕ) (is : IsShape shape) (l : seat < length core.views) (s : IsSoundLocks shape core) (can : CanFetch shape (view_at core.views seat) leaf) where
+module _ (shape : Shape) (core : Core) (seat leaf : ℕ) (is : IsShape shape) (l : seat < length core.views) (s : AreLocksSound shape core) (can : CanFetch shape (view_at core.views seat) leaf) where
   abbrev view : View
   view = view_at core.views seat
 
@@ -40,8 +43,8 @@ module _ (shape : Shape) (core : Core) (seat leaf : ℕ) (is : IsShape shape) (l
             let same : theirs ≡ view = same_Some theirs view (sym v.is ∙ ap (slice_get core.views) (sym e) ∙ is_view.is) in
             can.home (subst (λ (w : View). Contains w.out leaf) same h)
         | inr n ↦
-            let o = s.outs other theirs leaf v h in
-            one_seat_each shape core (cells_of_locks shape core s) is seat other view theirs can.above.cell o.above.cell leaf is_view v can.above.owned o.above.owned can.above.below o.above.below n
+            let o = s.leaves.outs other theirs leaf v h in
+            one_seat_each shape core s.cells is seat other view theirs can.above.cell o.above.cell leaf is_view v can.above.owned o.above.owned can.above.below o.above.below n
       ]
 
   none_have_it : (other : ℕ) (theirs : View) → IsView core other theirs → out_count leaf theirs.out ≡ 0
@@ -72,31 +75,27 @@ module _ (shape : Shape) (core : Core) (seat leaf : ℕ) (is : IsShape shape) (l
         above = above_by_chains shape view new_view leaf refl can.above;
         left = λ running e. subst (λ r. MayFetch r leaf) e can.left;
       })
-      (λ c h. let o = s.outs seat view c is_view h in out_by_chains shape view new_view c refl o.left o)
+      (λ c h. let o = s.leaves.outs seat view c is_view h in out_by_chains shape view new_view c refl o.left o)
 
-  pub fetch_kept : IsSoundLocks shape (stepped shape core seat (Fetch leaf))
+  pub fetch_kept : AreLocksSound shape (stepped shape core seat (Fetch leaf))
   fetch_kept =
-      joined shape core seat new_view (leaf_word shape leaf) 1 (omega arith) s
-      (cells_kept shape core seat new_view (leaf_word shape leaf) 1 l refl (λ cell h. omega arith) (cells_of_locks shape core s))
+      from_parts shape core seat new_view (leaf_place shape leaf) 1 (omega arith) s
+      (cells_kept shape core seat new_view (leaf_place shape leaf) 1 l refl (λ cell h. omega arith) s.cells)
       (leaves_moved shape core seat new_view leaf 1 s.words l can.is_leaf (sym one_after) (let a = one_after in omega arith)
-      (λ c n. let a = view_outs c in let b = one_if-other leaf c (λ q. n (sym q)) in omega arith) fetched_out (leaves_of_locks shape core s))
+      (λ c n. let a = view_outs c in let b = one_if-other leaf c (λ q. n (sym q)) in omega arith) fetched_out s.leaves)
 
 -- another leaf that was left to return still is
 left_after : (leaf c : ℕ) (o : Option Running) → (c ≡ leaf → ⊥) → ((r : Running) → o ≡ Some r → Contains r.leaves c) → (r : Running) → after_return o leaf ≡ Some r → Contains r.leaves c
 left_after leaf c None n left r e = absurd (none-some r e)
 left_after leaf c (Some q) n left r e =
-    subst (λ xs. Contains xs c) (ap (λ (x : Running). x.leaves) (IsLeft-from q.task (without leaf q.leaves) q.successors r e).is) (without_keeps leaf q.leaves c (left q refl) n)
+    subst (λ xs. Contains xs c) (ap (λ (x : Running). x.leaves) (IsGoing-from q.task (without leaf q.leaves) q.successors r e).is) (without_keeps leaf q.leaves c (left q refl) n)
 
--- the view with a leaf home again
-abbrev without_leaf : View → ℕ → View
-without_leaf view leaf = record view { out = without leaf view.out; running = after_return view.running leaf }
-
-module _ (shape : Shape) (core : Core) (seat leaf : ℕ) (l : seat < length core.views) (s : IsSoundLocks shape core) (can : CanReturn shape (view_at core.views seat) leaf) where
+module _ (shape : Shape) (core : Core) (seat leaf : ℕ) (l : seat < length core.views) (s : AreLocksSound shape core) (can : CanReturn shape (view_at core.views seat) leaf) where
   abbrev holder : View
   holder = view_at core.views seat
 
   abbrev returned : View
-  returned = without_leaf holder leaf
+  returned = returning holder leaf
 
   is_holder : IsView core seat holder
   is_holder = IsView-view_at core seat l
@@ -107,18 +106,18 @@ module _ (shape : Shape) (core : Core) (seat leaf : ℕ) (l : seat < length core
       let a = outs_change leaf core.views seat returned l in
       let none = count-zero returned.out leaf (λ h. (Contains-without leaf holder.out leaf h).1 refl) in
       let some = count-pos holder.out leaf can.out in
-      let one = s.one_out leaf in
+      let one = s.leaves.one_out leaf in
       omega arith
 
   returned_out : (c : ℕ) → Contains returned.out c → IsOut shape returned c
   returned_out c h =
       let w = Contains-without leaf holder.out c h in
-      let o = s.outs seat holder c is_holder w.0 in
+      let o = s.leaves.outs seat holder c is_holder w.0 in
       out_by_chains shape holder returned c refl (left_after leaf c holder.running w.1 o.left) o
 
-  pub return_kept : IsSoundLocks shape (stepped shape core seat (Return leaf))
+  pub return_kept : AreLocksSound shape (stepped shape core seat (Return leaf))
   return_kept =
-      joined shape core seat returned (leaf_word shape leaf) 0 (omega arith) s
-      (cells_kept shape core seat returned (leaf_word shape leaf) 0 l refl (λ cell h. omega arith) (cells_of_locks shape core s))
+      from_parts shape core seat returned (leaf_place shape leaf) 0 (omega arith) s
+      (cells_kept shape core seat returned (leaf_place shape leaf) 0 l refl (λ cell h. omega arith) s.cells)
       (leaves_moved shape core seat returned leaf 0 s.words l can.is_leaf (sym none_after) (let a = none_after in omega arith)
-      (λ c n. count_by-without leaf c holder.out n) returned_out (leaves_of_locks shape core s))
+      (λ c n. count_by-without leaf c holder.out n) returned_out s.leaves)

@@ -1,10 +1,10 @@
 -- Which cells a view owns, by its chains.
 use Rattle.std.proofs.Common.{◌≡◌, ◌⊎◌, ◌↔◌, ℕ, List, [], ◌∷◌, Contains, Option, Some, None, sym, inl, inr, subst}
 use Rattle.std.proofs.lemmas.Option.{none-some}
+use Rattle.lists.proofs.Elements.{Contains-head, Contains-later, either, only}
 use Rattle.qs_core.specs.Shape.{Shape}
 use Rattle.qs_core.specs.Core.{Chain, Owns, View}
-use Rattle.qs_core.specs.Held.{IsOwner}
-use Rattle.qs_core.proofs.Counts.{Contains-first, Contains-later, Contains-nil, either, only}
+use Rattle.qs_core.specs.inner.Held.{IsOwner}
 
 -- a chain that stands and owns the cell
 owns-from : (shape : Shape) (view : View) (chains : List Chain) (chain : Chain) (cell : ℕ) → view.chains ≡ chains → Contains chains chain → IsOwner shape chain cell → Owns shape view cell
@@ -18,16 +18,13 @@ owner-of shape view chain cell o e = subst (λ c. IsOwner shape c cell) (sym e) 
 pub owns_by_chains : (shape : Shape) (view after : View) (cell : ℕ) → after.chains ≡ view.chains → Owns shape view cell → Owns shape after cell
 owns_by_chains shape view after cell same o = owns-from shape after view.chains o.chain cell same o.stands (o.complete, o.of_cell)
 
-pub owned_none : (shape : Shape) (view : View) (cell : ℕ) → view.chains ≡ [] → Owns shape view cell → ⊥
-owned_none shape view cell e o = Contains-nil o.chain (subst (λ cs. Contains cs o.chain) e o.stands)
-
 -- one chain
 pub owned_one : (shape : Shape) (view : View) (chain : Chain) (owned : Option ℕ) → view.chains ≡ chain ∷ [] → ((cell : ℕ) → ((owned ≡ Some cell) ↔ IsOwner shape chain cell))
     → (cell : ℕ) → Owns shape view cell ↔ ((owned ≡ Some cell) ⊎ (◌≡◌ {A = Option ℕ} None (Some cell)))
 owned_one shape view chain owned e is cell = (
   λ o. inl ((is cell).1 (owner-of shape view chain cell o (only chain o.chain (subst (λ cs. Contains cs o.chain) e o.stands)))),
   λ s. elim s [
-    | inl h ↦ owns-from shape view (chain ∷ []) chain cell e (Contains-first chain []) ((is cell).0 h)
+    | inl h ↦ owns-from shape view (chain ∷ []) chain cell e (Contains-head chain []) ((is cell).0 h)
     | inr h ↦ absurd (none-some cell h)
   ],
 )
@@ -42,8 +39,8 @@ owned_two shape view newest older owned other e is is' cell = (
     | inr same ↦ inr ((is' cell).1 (owner-of shape view older cell o same))
   ],
   λ s. elim s [
-    | inl h ↦ owns-from shape view (newest ∷ older ∷ []) newest cell e (Contains-first newest (older ∷ [])) ((is cell).0 h)
-    | inr h ↦ owns-from shape view (newest ∷ older ∷ []) older cell e (Contains-later newest (older ∷ []) older (Contains-first older [])) ((is' cell).0 h)
+    | inl h ↦ owns-from shape view (newest ∷ older ∷ []) newest cell e (Contains-head newest (older ∷ [])) ((is cell).0 h)
+    | inr h ↦ owns-from shape view (newest ∷ older ∷ []) older cell e (Contains-later newest (older ∷ []) older (Contains-head older [])) ((is' cell).0 h)
   ],
 )
 

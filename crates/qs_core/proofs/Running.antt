@@ -2,24 +2,13 @@
 use Rattle.std.proofs.Common.{◌≡◌, ◌≢◌, ℕ, ◌<◌, ◌==◌, cond, List, [], ◌∷◌, length, slice_index, count_by, Contains, Option, Some, refl, sym, ap, ◌∙◌, subst, inl, inr, arith}
 use Rattle.std.specs.List.{range_with_len}
 use Rattle.std.proofs.lemmas.Option.{none-some, same_Some}
+use Rattle.lists.proofs.Sums.{sum_by-same}
 use Rattle.qs_core.specs.Shape.{Shape, IsEdge, Touches, task_at}
-use Rattle.qs_core.specs.Core.{Core, View, Running, task_word, claimed_word, view_at}
+use Rattle.qs_core.specs.Core.{Core, View, Running, task_place, claimed_word, view_at}
 use Rattle.qs_core.specs.Steps.{OwnsJust, unless_over}
-use Rattle.qs_core.specs.Sound.{IsSound, IsView, IsClaimed, IsDone, IsRunning, Runs, left_in, unclaimed_edges, unreleased}
-use Rattle.qs_core.proofs.Edges.{sum_by-same}
+use Rattle.qs_core.specs.Sound.{IsSound, IsView, IsClaimed, IsDone, IsRunning, Runs, left_in, unclaimed_edges, unreleased, edges_from, AreTasksSound}
 use Rattle.qs_core.proofs.Views.{IsView-view_at, changed, view_cases, sum_by-views}
 use Rattle.qs_core.proofs.Owned.{owns_by_chains}
-
--- what a sound state keeps of its tasks
-pub record IsSoundTasks (shape : Shape) (core : Core) : Type 0 where
-  pub runs : (seat : ℕ) (view : View) (running : Running) → IsView core seat view → view.running ≡ Some running → IsRunning shape core view running
-  pub one_runs : (seat seat' task : ℕ) (view view' : View) (running running' : Running)
-      → IsView core seat view → IsView core seat' view' → Runs view task running → Runs view' task running' → seat ≡ seat'
-  pub task_words : (task : ℕ) → task < length shape.tasks → slice_index core.words (task_word shape task) ≢ claimed_word
-      → slice_index core.words (task_word shape task) ≡ unreleased shape core task
-  pub claimed_ready : (task : ℕ) → task < length shape.tasks → IsClaimed shape core task → unreleased shape core task ≡ 0
-  pub in_order : (before after leaf : ℕ) → before < length shape.tasks → after < length shape.tasks → IsEdge shape before after → IsClaimed shape core after
-      → IsClaimed shape core before × (Touches shape before leaf → IsDone shape core before leaf)
 
 -- a running task after a step comes from one before it, with no more leaves left
 pub record Came (old : Option Running) (after : Running) : Type 0 where
@@ -78,7 +67,7 @@ runs-kept shape core words seat new sound l claims own other view running v r =
     elim (view_cases core words seat new other view l v) [
       | inl n ↦ subst (λ (w : View). IsRunning shape (changed core words seat new) w running) n.is (own running (ap (λ (w : View). w.running) n.is ∙ r))
       | inr o ↦
-          let was = sound.runs other view running o.was r in
+          let was = sound.tasks.runs other view running o.was r in
           IsRunning-moved shape core (changed core words seat new) view view running was (claims running.task was.is_task was.claimed) (λ some. (was.owns some).0)
     ]
 
@@ -89,7 +78,7 @@ pub one_runs-kept : (shape : Shape) (core : Core) (words : List ℕ) (seat : ℕ
 one_runs-kept shape core words seat new sound l came one two task view view' running running' v v' r r' =
     let a = Ran-from core words seat new l came one view task running v r in
     let b = Ran-from core words seat new l came two view' task running' v' r' in
-    sound.one_runs one two task a.view b.view a.running b.running a.is_view b.is_view a.runs b.runs
+    sound.tasks.one_runs one two task a.view b.view a.running b.running a.is_view b.is_view a.runs b.runs
 
 -- the order, where the claims are the same
 pub in_order-kept : (shape : Shape) (core : Core) (words : List ℕ) (seat : ℕ) (new : View) → IsSound shape core → seat < length core.views → AllCame (view_at core.views seat).running new.running
@@ -98,7 +87,7 @@ pub in_order-kept : (shape : Shape) (core : Core) (words : List ℕ) (seat : ℕ
     → (before after leaf : ℕ) → before < length shape.tasks → after < length shape.tasks → IsEdge shape before after → IsClaimed shape (changed core words seat new) after
     → IsClaimed shape (changed core words seat new) before × (Touches shape before leaf → IsDone shape (changed core words seat new) before leaf)
 in_order-kept shape core words seat new sound l came forth back before after leaf b a edge c =
-    let was = sound.in_order before after leaf b a edge (back after a c) in (
+    let was = sound.tasks.in_order before after leaf b a edge (back after a c) in (
       forth before b was.0,
       λ t. record {
         touches = t;
@@ -111,18 +100,15 @@ in_order-kept shape core words seat new sound l came forth back before after lea
 
 -- the edges from tasks that aren't claimed, where the claims are the same
 pub unclaimed-kept : (shape : Shape) (core after : Core) (task : ℕ)
-    → ((t : ℕ) → (slice_index after.words (task_word shape t) == claimed_word) ≡ (slice_index core.words (task_word shape t) == claimed_word))
+    → ((t : ℕ) → (slice_index after.words (task_place shape t) == claimed_word) ≡ (slice_index core.words (task_place shape t) == claimed_word))
     → unclaimed_edges shape after task ≡ unclaimed_edges shape core task
 unclaimed-kept shape core after task same =
-    sum_by-same
-    (λ before. cond (slice_index after.words (task_word shape before) == claimed_word) 0 (count_by (λ s. s == task) (task_at shape before).successors))
-    (λ before. cond (slice_index core.words (task_word shape before) == claimed_word) 0 (count_by (λ s. s == task) (task_at shape before).successors))
-    (range_with_len 0 (length shape.tasks))
+    sum_by-same (edges_from shape after task) (edges_from shape core task) (range_with_len 0 (length shape.tasks))
     (λ before. ap (λ b. cond b 0 (count_by (λ s. s == task) (task_at shape before).successors)) (same before))
 
 -- the edges that aren't released, where the words are the same and as much is left
 pub unreleased-kept : (shape : Shape) (core : Core) (words : List ℕ) (seat : ℕ) (new : View) (task : ℕ) → seat < length core.views
-    → ((t : ℕ) → slice_index words (task_word shape t) ≡ slice_index core.words (task_word shape t))
+    → ((t : ℕ) → slice_index words (task_place shape t) ≡ slice_index core.words (task_place shape t))
     → left_in new.running task ≡ left_in (view_at core.views seat).running task
     → unreleased shape (changed core words seat new) task ≡ unreleased shape core task
 unreleased-kept shape core words seat new task l same left =
@@ -132,31 +118,31 @@ unreleased-kept shape core words seat new task l same left =
 
 -- the tasks of a state, where the words are the same, as much is left to release, and no more to return
 pub tasks-plain : (shape : Shape) (core : Core) (words : List ℕ) (seat : ℕ) (new : View) → IsSound shape core → seat < length core.views
-    → ((t : ℕ) → slice_index words (task_word shape t) ≡ slice_index core.words (task_word shape t))
+    → ((t : ℕ) → slice_index words (task_place shape t) ≡ slice_index core.words (task_place shape t))
     → AllCame (view_at core.views seat).running new.running
     → ((t : ℕ) → left_in new.running t ≡ left_in (view_at core.views seat).running t)
     → ((running : Running) → new.running ≡ Some running → IsRunning shape (changed core words seat new) new running)
-    → IsSoundTasks shape (changed core words seat new)
+    → AreTasksSound shape (changed core words seat new)
 tasks-plain shape core words seat new sound l same came left own = record {
   runs = runs-kept shape core words seat new sound l (λ t b c. same t ∙ c) own;
   one_runs = one_runs-kept shape core words seat new sound l came;
-  task_words = λ t b n. same t ∙ sound.task_words t b (λ c. n (same t ∙ c)) ∙ sym (unreleased-kept shape core words seat new t l same (left t));
-  claimed_ready = λ t b c. unreleased-kept shape core words seat new t l same (left t) ∙ sound.claimed_ready t b (sym (same t) ∙ c);
+  task_words = λ t b n. same t ∙ sound.tasks.task_words t b (λ c. n (same t ∙ c)) ∙ sym (unreleased-kept shape core words seat new t l same (left t));
+  claimed_ready = λ t b c. unreleased-kept shape core words seat new t l same (left t) ∙ sound.tasks.claimed_ready t b (sym (same t) ∙ c);
   in_order = in_order-kept shape core words seat new sound l came (λ t b c. same t ∙ c) (λ t b c. sym (same t) ∙ c);
 }
 
 -- the tasks of a state, where the seat runs what it ran
 pub tasks-same : (shape : Shape) (core : Core) (words : List ℕ) (seat : ℕ) (new : View) → IsSound shape core → seat < length core.views
-    → ((t : ℕ) → slice_index words (task_word shape t) ≡ slice_index core.words (task_word shape t))
+    → ((t : ℕ) → slice_index words (task_place shape t) ≡ slice_index core.words (task_place shape t))
     → new.running ≡ (view_at core.views seat).running
     → ((running : Running) → (view_at core.views seat).running ≡ Some running → running.leaves ≢ [] → OwnsJust shape new running.task)
-    → IsSoundTasks shape (changed core words seat new)
+    → AreTasksSound shape (changed core words seat new)
 tasks-same shape core words seat new sound l same e owns =
     tasks-plain shape core words seat new sound l same
     (λ after a. record { running = after; was = sym e ∙ a; of_task = refl; leaves = λ leaf c. c })
     (λ t. ap (λ (o : Option Running). left_in o t) e)
     (λ running r.
-    let was = sound.runs seat (view_at core.views seat) running (IsView-view_at core seat l) (sym e ∙ r) in
+    let was = sound.tasks.runs seat (view_at core.views seat) running (IsView-view_at core seat l) (sym e ∙ r) in
     IsRunning-moved shape core (changed core words seat new) (view_at core.views seat) new running was (same running.task ∙ was.claimed) (owns running (sym e ∙ r)))
 
 -- what a view owns hangs on its chains alone
@@ -167,16 +153,16 @@ OwnsJust-chains shape view view' task e owns cell = (
 )
 
 -- a task that isn't over has what is given, and something is left
-pub record IsLeft (task : ℕ) (leaves successors : List ℕ) (running : Running) : Type 0 where
+pub record IsGoing (task : ℕ) (leaves successors : List ℕ) (running : Running) : Type 0 where
   pub is : ◌≡◌ {A = Running} (record { task = task; leaves = leaves; successors = successors }) running
   pub some : leaves ≡ [] → successors ≡ [] → ⊥
 
 -- what `unless_over` gives isn't over
-pub IsLeft-from : (task : ℕ) (leaves successors : List ℕ) (running : Running) → unless_over task leaves successors ≡ Some running → IsLeft task leaves successors running
-IsLeft-from task [] [] running e = absurd (none-some running e)
-IsLeft-from task [] (s ∷ ss) running e = record { is = same_Some _ _ e; some = λ p q. cc }
-IsLeft-from task (l ∷ ls) [] running e = record { is = same_Some _ _ e; some = λ p q. cc }
-IsLeft-from task (l ∷ ls) (s ∷ ss) running e = record { is = same_Some _ _ e; some = λ p q. cc }
+pub IsGoing-from : (task : ℕ) (leaves successors : List ℕ) (running : Running) → unless_over task leaves successors ≡ Some running → IsGoing task leaves successors running
+IsGoing-from task [] [] running e = absurd (none-some running e)
+IsGoing-from task [] (s ∷ ss) running e = record { is = same_Some _ _ e; some = λ p q. cc }
+IsGoing-from task (l ∷ ls) [] running e = record { is = same_Some _ _ e; some = λ p q. cc }
+IsGoing-from task (l ∷ ls) (s ∷ ss) running e = record { is = same_Some _ _ e; some = λ p q. cc }
 
 -- as much is left to release
 pub left-unless_over : (task : ℕ) (leaves successors : List ℕ) (t : ℕ) → left_in (unless_over task leaves successors) t ≡ count_by (λ s. s == t) successors

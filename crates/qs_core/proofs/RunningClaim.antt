@@ -1,22 +1,19 @@
 -- The tasks after a claim.
-use Rattle.std.proofs.Common.{◌≡◌, ◌≢◌, ℕ, ◌+◌, ◌<◌, ◌≤◌, ◌⊎◌, ◌==◌, cond, List, [], length, slice_index, slice_set, count_by, Contains, Option, Some, refl, sym, ap, ◌∙◌, subst, inl, inr, arith}
-use Rattle.std.proofs.lemmas.Bool.{cases_eq, eq-eqb, ne_eqb, cond-true, cond-false}
+use Rattle.std.proofs.Common.{◌≡◌, ◌≢◌, ℕ, ◌+◌, ◌<◌, ◌⊎◌, ◌==◌, cond, List, length, slice_index, slice_set, count_by, Contains, Option, Some, refl, sym, ap, ◌∙◌, subst, inl, inr, arith}
+use Rattle.std.proofs.lemmas.Bool.{cases_eq, eq-eqb, ne_eqb}
 use Rattle.std.proofs.lemmas.Option.{none-some, same_Some}
+use Rattle.lists.proofs.Ranges.{sum_by-range_change}
 use Rattle.qs_core.specs.declared.event.Step.TheVariants.{Claim}
-use Rattle.qs_core.specs.Shape.{Shape, IsShape, IsEdge, Touches, leaves_of, task_at}
-use Rattle.qs_core.specs.Core.{Core, View, Running, task_word, claimed_word, view_at}
-use Rattle.qs_core.specs.Steps.{CanClaim, stepped}
-use Rattle.qs_core.specs.Sound.{IsSound, IsView, IsClaimed, IsDone, IsRunning, Runs, left_in, unclaimed_edges, unreleased}
-use Rattle.qs_core.proofs.Edges.{part-le-range, sum_by-range_change}
+use Rattle.qs_core.specs.Shape.{Shape, IsShape, IsEdge, Touches, task_at}
+use Rattle.qs_core.specs.Core.{Core, View, Running, task_place, claimed_word, view_at}
+use Rattle.qs_core.specs.Steps.{CanClaim, stepped, started}
+use Rattle.qs_core.specs.Sound.{IsSound, IsView, IsClaimed, IsDone, IsRunning, Runs, left_in, unclaimed_edges, unreleased, edges_from, AreTasksSound, IsReleased}
 use Rattle.qs_core.proofs.Tasks.{word-other, word-same}
-use Rattle.qs_core.proofs.Views.{changed, part-le-sum_by, view_cases, sum_by-views}
-use Rattle.qs_core.proofs.Running.{IsSoundTasks, OwnsJust-chains, runs-kept, tasks-same}
+use Rattle.qs_core.proofs.Views.{changed, view_cases, sum_by-views}
+use Rattle.qs_core.proofs.Running.{OwnsJust-chains, runs-kept, tasks-same}
 use Rattle.qs_core.proofs.RunningLeaves.{leaves-once, leaves-some}
-use Rattle.qs_core.proofs.Counts.{count-pos}
-
--- the task as it starts to run
-abbrev started : Shape → ℕ → Running
-started shape task = record { task = task; leaves = leaves_of shape task; successors = (task_at shape task).successors }
+use Rattle.qs_core.proofs.ReleasedEdges.{each_released, edges_from-other, edges_from-claimed}
+use Rattle.lists.proofs.Elements.{Contains-nil}
 
 -- the view after a claim that saw 0
 abbrev pub claiming : Shape → View → ℕ → View
@@ -24,7 +21,7 @@ claiming shape view task = record view { running = Some (started shape task) }
 
 -- the words after it
 abbrev claimed : Shape → Core → ℕ → List ℕ
-claimed shape core task = slice_set core.words (task_word shape task) claimed_word
+claimed shape core task = slice_set core.words (task_place shape task) claimed_word
 
 -- what is known where a claim saw 0
 record CanStart (shape : Shape) (core : Core) (seat task : ℕ) : Type 0 where
@@ -32,7 +29,7 @@ record CanStart (shape : Shape) (core : Core) (seat task : ℕ) : Type 0 where
   sound : IsSound shape core
   seat_is : seat < length core.views
   can : CanClaim shape (view_at core.views seat) task
-  zero_seen : slice_index core.words (task_word shape task) ≡ 0
+  zero_seen : slice_index core.words (task_place shape task) ≡ 0
 
 -- the state after it
 abbrev next : Shape → Core → ℕ → ℕ → Core
@@ -47,8 +44,8 @@ claimed-start : (shape : Shape) (core : Core) (seat task : ℕ) → CanStart sha
 claimed-start shape core seat task k = word-same shape core claimed_word task k.sound k.can.is_task
 
 -- the word of another stays
-other-start : (shape : Shape) (core : Core) (seat task t : ℕ) → t ≢ task → slice_index (claimed shape core task) (task_word shape t) ≡ slice_index core.words (task_word shape t)
-other-start shape core seat task t n = word-other shape core.words (task_word shape task) claimed_word t (λ e. n (omega arith))
+other-start : (shape : Shape) (core : Core) (seat task t : ℕ) → t ≢ task → slice_index (claimed shape core task) (task_place shape t) ≡ slice_index core.words (task_place shape t)
+other-start shape core seat task t n = word-other shape core.words (task_place shape task) claimed_word t (λ e. n (omega arith))
 
 -- a claimed task stays claimed
 stays-start : (shape : Shape) (core : Core) (seat task : ℕ) → CanStart shape core seat task → (t : ℕ) → IsClaimed shape core t → IsClaimed shape (next shape core seat task) t
@@ -63,13 +60,12 @@ back-start shape core seat task k t n c = sym (other-start shape core seat task 
 unclaimed-edges-start : (shape : Shape) (core : Core) (seat task : ℕ) → CanStart shape core seat task → (t : ℕ)
     → unclaimed_edges shape (next shape core seat task) t + count_by (λ s. s == t) (task_at shape task).successors ≡ unclaimed_edges shape core t
 unclaimed-edges-start shape core seat task k t =
-    let f = λ (before : ℕ). cond (slice_index (claimed shape core task) (task_word shape before) == claimed_word) 0 (count_by (λ s. s == t) (task_at shape before).successors) in
-    let g = λ (before : ℕ). cond (slice_index core.words (task_word shape before) == claimed_word) 0 (count_by (λ s. s == t) (task_at shape before).successors) in
+    let f = edges_from shape (next shape core seat task) t in
+    let g = edges_from shape core t in
     let c = sum_by-range_change f g task 0 (length shape.tasks)
     (λ i n. ap (λ w. cond (w == claimed_word) 0 (count_by (λ s. s == t) (task_at shape i).successors)) (other-start shape core seat task i n)) (omega arith) (let l = k.can.is_task in omega arith) in
-    let none : f task ≡ 0 = cond-true (slice_index (claimed shape core task) (task_word shape task) == claimed_word) 0 (count_by (λ s. s == t) (task_at shape task).successors) (eq-eqb _ _ (claimed-start shape core seat task k)) in
-    let all : g task ≡ count_by (λ s. s == t) (task_at shape task).successors =
-    cond-false (slice_index core.words (task_word shape task) == claimed_word) 0 (count_by (λ s. s == t) (task_at shape task).successors) (ne_eqb _ _ (unclaimed-start shape core seat task k)) in
+    let none = edges_from-claimed shape (next shape core seat task) t task (claimed-start shape core seat task k) in
+    let all = edges_from-other shape core t task (unclaimed-start shape core seat task k) in
     omega arith
 
 -- as many edges are left to release as before
@@ -82,7 +78,7 @@ unreleased-start shape core seat task k t =
 
 -- no edge into the task is left
 ready-start : (shape : Shape) (core : Core) (seat task : ℕ) → CanStart shape core seat task → unreleased shape core task ≡ 0
-ready-start shape core seat task k = sym (k.sound.task_words task k.can.is_task (unclaimed-start shape core seat task k)) ∙ k.zero_seen
+ready-start shape core seat task k = sym (k.sound.tasks.task_words task k.can.is_task (unclaimed-start shape core seat task k)) ∙ k.zero_seen
 
 -- the task as it starts
 running-start : (shape : Shape) (core : Core) (seat task : ℕ) → CanStart shape core seat task
@@ -109,7 +105,7 @@ one_runs-start shape core seat task k one two t view view' running running' v v'
       | inr a ↦
           elim (cases two view' running' v' r') [
             | inl b ↦ absurd (unclaimed-start shape core seat task k (subst (IsClaimed shape core) b.1 (was_claimed one view running a r)))
-            | inr b ↦ k.sound.one_runs one two t view view' running running' a b r r'
+            | inr b ↦ k.sound.tasks.one_runs one two t view view' running running' a b r r'
           ]
     ]
   where
@@ -121,7 +117,7 @@ one_runs-start shape core seat task k one two t view view' running running' v v'
         ]
 
     was_claimed : (s : ℕ) (w : View) (run : Running) → IsView core s w → Runs w t run → IsClaimed shape core t
-    was_claimed s w run v r = subst (IsClaimed shape core) r.of_task (k.sound.runs s w run v r.is).claimed
+    was_claimed s w run v r = subst (IsClaimed shape core) r.of_task (k.sound.tasks.runs s w run v r.is).claimed
 
 -- a task that was claimed doesn't run in this seat after the claim
 not_here : (shape : Shape) (core : Core) (seat task : ℕ) → CanStart shape core seat task → (before : ℕ) → IsClaimed shape core before → (other : ℕ) (view : View) (running : Running)
@@ -134,33 +130,18 @@ not_here shape core seat task k before c other view running v r =
       | inr o ↦ o.was
     ]
 
--- a task with an edge into the claimed one was claimed
-before-claimed : (shape : Shape) (core : Core) (seat task : ℕ) → CanStart shape core seat task → (before : ℕ) → before < length shape.tasks → IsEdge shape before task → IsClaimed shape core before
-before-claimed shape core seat task k before l edge =
-    elim (cases_eq (slice_index core.words (task_word shape before)) claimed_word) [
-      | inl c ↦ c
-      | inr n ↦
-          let f = λ (b : ℕ). cond (slice_index core.words (task_word shape b) == claimed_word) 0 (count_by (λ s. s == task) (task_at shape b).successors) in
-          let part = part-le-range f before (length shape.tasks) l in
-          let here : f before ≡ count_by (λ s. s == task) (task_at shape before).successors =
-          cond-false (slice_index core.words (task_word shape before) == claimed_word) 0 (count_by (λ s. s == task) (task_at shape before).successors) (ne_eqb _ _ n) in
-          let some = count-pos (task_at shape before).successors task edge in
-          let ready = ready-start shape core seat task k in
-          absurd (omega arith)
-    ]
+-- each edge into it is released
+released-start : (shape : Shape) (core : Core) (seat task : ℕ) → CanStart shape core seat task → (before : ℕ) → before < length shape.tasks → IsEdge shape before task → IsReleased shape core before task
+released-start shape core seat task k before l edge = each_released shape core task before (ready-start shape core seat task k) l edge
 
--- it had no leaf left: else all its successors were left, this task among them
-before-done : (shape : Shape) (core : Core) (seat task : ℕ) → CanStart shape core seat task → (before leaf other : ℕ) (view : View) (running : Running) → IsEdge shape before task
+-- so a task before it had no leaf left: else all its successors were left, this task among them
+before-done : (shape : Shape) (core : Core) (seat task : ℕ) → CanStart shape core seat task → (before leaf other : ℕ) (view : View) (running : Running) → before < length shape.tasks → IsEdge shape before task
     → IsView core other view → Runs view before running → Contains running.leaves leaf → ⊥
-before-done shape core seat task k before leaf other view running edge v r c =
-    let run = k.sound.runs other view running v r.is in
-    let all = (run.owns (λ e. let m : Contains [] leaf = subst (λ (ls : List ℕ). Contains ls leaf) e c in let l = m.1 in omega arith)).1 in
+before-done shape core seat task k before leaf other view running l edge v r c =
+    let run = k.sound.tasks.runs other view running v r.is in
+    let all = (run.owns (λ e. Contains-nil leaf (subst (λ (ls : List ℕ). Contains ls leaf) e c))).1 in
     let edge' : IsEdge shape running.task task = subst (λ b. IsEdge shape b task) (sym r.of_task) edge in
-    let left : Contains running.successors task = subst (λ (ss : List ℕ). Contains ss task) (sym all) edge' in
-    let counted : 1 ≤ left_in view.running task = rw r.is (let n = count-pos running.successors task left in omega arith) in
-    let part = part-le-sum_by (λ (w : View). left_in w.running task) core other view v in
-    let ready = ready-start shape core seat task k in
-    omega arith
+    (released-start shape core seat task k before l edge).none_left other view running v r (subst (λ (ss : List ℕ). Contains ss task) (sym all) edge')
 
 -- the order after the claim
 in_order-start : (shape : Shape) (core : Core) (seat task : ℕ) → CanStart shape core seat task → (before after leaf : ℕ) → before < length shape.tasks → after < length shape.tasks
@@ -170,18 +151,18 @@ in_order-start shape core seat task k before after leaf b a edge c =
     elim (cases_eq after task) [
       | inl e ↦
           let edge' : IsEdge shape before task = subst (λ t. IsEdge shape before t) e edge in
-          let was = before-claimed shape core seat task k before b edge' in
+          let was = (released-start shape core seat task k before b edge').claimed in
           let now = stays-start shape core seat task k before was in (
             now,
             λ t. record {
               touches = t;
               claimed = now;
               none_left = λ other view running v r left.
-                  before-done shape core seat task k before leaf other view running edge' (not_here shape core seat task k before was other view running v r) r left;
+                  before-done shape core seat task k before leaf other view running b edge' (not_here shape core seat task k before was other view running v r) r left;
             },
           )
       | inr n ↦
-          let was = k.sound.in_order before after leaf b a edge (back-start shape core seat task k after n c) in
+          let was = k.sound.tasks.in_order before after leaf b a edge (back-start shape core seat task k after n c) in
           let now = stays-start shape core seat task k before was.0 in (
             now,
             λ t. record {
@@ -194,7 +175,7 @@ in_order-start shape core seat task k before after leaf b a edge c =
     ]
 
 -- the tasks after a claim that saw 0
-tasks-start : (shape : Shape) (core : Core) (seat task : ℕ) → CanStart shape core seat task → IsSoundTasks shape (next shape core seat task)
+tasks-start : (shape : Shape) (core : Core) (seat task : ℕ) → CanStart shape core seat task → AreTasksSound shape (next shape core seat task)
 tasks-start shape core seat task k = record {
   runs =
       runs-kept shape core (claimed shape core task) seat (claiming shape (view_at core.views seat) task) k.sound k.seat_is (λ t l c. stays-start shape core seat task k t c)
@@ -205,39 +186,39 @@ tasks-start shape core seat task k = record {
         | inl e ↦ absurd (n (subst (IsClaimed shape (next shape core seat task)) (sym e) (claimed-start shape core seat task k)))
         | inr m ↦
             let same = other-start shape core seat task t m in
-            same ∙ k.sound.task_words t l (λ c. n (same ∙ c)) ∙ sym (unreleased-start shape core seat task k t)
+            same ∙ k.sound.tasks.task_words t l (λ c. n (same ∙ c)) ∙ sym (unreleased-start shape core seat task k t)
       ];
   claimed_ready = λ t l c.
       unreleased-start shape core seat task k t
       ∙ elim (cases_eq t task) [
         | inl e ↦ subst (λ x. unreleased shape core x ≡ 0) (sym e) (ready-start shape core seat task k)
-        | inr m ↦ k.sound.claimed_ready t l (back-start shape core seat task k t m c)
+        | inr m ↦ k.sound.tasks.claimed_ready t l (back-start shape core seat task k t m c)
       ];
   in_order = in_order-start shape core seat task k;
 }
 
 -- the tasks after a claim, whatever it saw
 pub tasks-claim : (shape : Shape) (core : Core) (seat task : ℕ) → IsShape shape → IsSound shape core → seat < length core.views → CanClaim shape (view_at core.views seat) task
-    → IsSoundTasks shape (stepped shape core seat (Claim task))
-tasks-claim shape core seat task s sound l can = go (cases_eq (slice_index core.words (task_word shape task)) 0)
+    → AreTasksSound shape (stepped shape core seat (Claim task))
+tasks-claim shape core seat task s sound l can = go (cases_eq (slice_index core.words (task_place shape task)) 0)
   where
-    go : (slice_index core.words (task_word shape task) ≡ 0) ⊎ (slice_index core.words (task_word shape task) ≡ 0 → ⊥) → IsSoundTasks shape (stepped shape core seat (Claim task))
+    go : (slice_index core.words (task_place shape task) ≡ 0) ⊎ (slice_index core.words (task_place shape task) ≡ 0 → ⊥) → AreTasksSound shape (stepped shape core seat (Claim task))
     go (inl z) =
-        let t = eq-eqb (slice_index core.words (task_word shape task)) 0 z in
-        subst (λ b. IsSoundTasks shape (changed core
-        (slice_set core.words (task_word shape task) (cond b claimed_word (slice_index core.words (task_word shape task)))) seat
+        let t = eq-eqb (slice_index core.words (task_place shape task)) 0 z in
+        subst (λ b. AreTasksSound shape (changed core
+        (slice_set core.words (task_place shape task) (cond b claimed_word (slice_index core.words (task_place shape task)))) seat
         (cond b (claiming shape (view_at core.views seat) task) (view_at core.views seat)))) (sym t)
         (tasks-start shape core seat task (record { shape_is = s; sound = sound; seat_is = l; can = can; zero_seen = z }))
     go (inr n) =
-        let f = ne_eqb (slice_index core.words (task_word shape task)) 0 n in
-        subst (λ b. IsSoundTasks shape (changed core
-        (slice_set core.words (task_word shape task) (cond b claimed_word (slice_index core.words (task_word shape task)))) seat
+        let f = ne_eqb (slice_index core.words (task_place shape task)) 0 n in
+        subst (λ b. AreTasksSound shape (changed core
+        (slice_set core.words (task_place shape task) (cond b claimed_word (slice_index core.words (task_place shape task)))) seat
         (cond b (claiming shape (view_at core.views seat) task) (view_at core.views seat)))) (sym f)
-        (tasks-same shape core (slice_set core.words (task_word shape task) (slice_index core.words (task_word shape task))) seat (view_at core.views seat) sound l
+        (tasks-same shape core (slice_set core.words (task_place shape task) (slice_index core.words (task_place shape task))) seat (view_at core.views seat) sound l
         (λ t. elim (cases_eq t task) [
-          | inl e ↦ subst (λ u. slice_index (slice_set core.words (task_word shape task) (slice_index core.words (task_word shape task))) (task_word shape u) ≡ slice_index core.words (task_word shape u)) (sym e)
-              (word-same shape core (slice_index core.words (task_word shape task)) task sound can.is_task)
-          | inr m ↦ word-other shape core.words (task_word shape task) _ t (λ e. m (omega arith))
+          | inl e ↦ subst (λ u. slice_index (slice_set core.words (task_place shape task) (slice_index core.words (task_place shape task))) (task_place shape u) ≡ slice_index core.words (task_place shape u)) (sym e)
+              (word-same shape core (slice_index core.words (task_place shape task)) task sound can.is_task)
+          | inr m ↦ word-other shape core.words (task_place shape task) _ t (λ e. m (omega arith))
         ])
         refl
         (λ running r. absurd (none-some running (sym can.free.none_runs ∙ r))))

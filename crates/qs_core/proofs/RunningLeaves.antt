@@ -3,9 +3,9 @@ use Rattle.std.proofs.Common.{◌≡◌, ℕ, ◌-◌, ◌<◌, ◌≤◌, ◌==
 use Rattle.std.proofs.lemmas.Bool.{cases_lt}
 use Rattle.std.proofs.lemmas.List.FromFn.{length-range_with_len}
 use Rattle.std.proofs.lemmas.List.Sums.{sum_by-append}
+use Rattle.lists.proofs.Counts.{Contains-from_count}
+use Rattle.lists.proofs.Ranges.{count-range}
 use Rattle.qs_core.specs.Shape.{Shape, IsShape, IsBelow, leaves_below, leaves_of, leaves_of_other, range_of, task_at}
-use Rattle.qs_core.proofs.Edges.{count-range}
-use Rattle.qs_core.proofs.Counts.{Contains-from_count}
 use Rattle.qs_core.proofs.Below.{below_is}
 
 -- a leaf that is listed for a cell is below it

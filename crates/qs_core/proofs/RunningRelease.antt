@@ -1,21 +1,17 @@
 -- The tasks after a release.
-use Rattle.std.proofs.Common.{◌≡◌, ◌≢◌, ℕ, ◌+◌, ◌*◌, ◌-◌, ◌%◌, ◌^◌, ◌<◌, ◌≤◌, ◌==◌, cond, List, [], ◌∷◌, length, get_or, slice_index, slice_set, sum_by, count_by, Contains, Option, Some, None, refl, sym, ap, ◌∙◌, subst, inl, inr, arith}
-use Rattle.std.specs.List.{range_with_len}
-use Rattle.std.proofs.lemmas.Bool.{cases_eq, eq-eqb, ne_eqb, cond-true, cond-false, cond_both}
-use Rattle.std.proofs.lemmas.List.Elements.{All-from_get_or}
-use Rattle.std.proofs.lemmas.List.FromFn.{length-range_with_len, get_or-range_with_len}
-use Rattle.std.proofs.lemmas.List.Sums.{sum_by-cons, sum_by-le}
+use Rattle.std.proofs.Common.{◌≡◌, ◌≢◌, ℕ, ◌+◌, ◌-◌, ◌%◌, ◌^◌, ◌<◌, ◌≤◌, ◌==◌, cond, List, [], ◌∷◌, length, slice_index, slice_set, count_by, Contains, Option, Some, refl, sym, ap, ◌∙◌, subst, inl, inr, arith}
+use Rattle.std.proofs.lemmas.Bool.{cases_eq, eq-eqb, ne_eqb, cond-true, cond-false}
+use Rattle.std.proofs.lemmas.List.Sums.{sum_by-cons}
+use Rattle.lists.proofs.Elements.{Contains-later}
 use Rattle.qs_core.specs.declared.event.Step.TheVariants.{Release}
-use Rattle.qs_core.specs.Shape.{Shape, IsShape, task_at}
-use Rattle.qs_core.specs.Core.{Core, View, Running, task_word, claimed_word, view_at}
+use Rattle.qs_core.specs.Shape.{Shape, IsShape}
+use Rattle.qs_core.specs.Core.{Core, View, Running, task_place, claimed_word, view_at}
 use Rattle.qs_core.specs.Steps.{CanRelease, after_release, next_successor, rest, stepped}
-use Rattle.qs_core.specs.Sound.{IsSound, IsView, IsClaimed, IsRunning, Runs, left_in, unreleased}
-use Rattle.qs_core.proofs.Counts.{Contains-later, get_from_Contains, one_if, one_if-le, one_if-other, one_if-same}
-use Rattle.qs_core.proofs.Edges.{part-le-range}
-use Rattle.qs_core.proofs.Totals.{few_for_places, one_in_all}
+use Rattle.qs_core.specs.Sound.{IsSound, IsClaimed, IsRunning, left_in, unreleased, AreTasksSound}
 use Rattle.qs_core.proofs.Tasks.{IsReleasing, IsReleasing-from, word-other, word-same}
 use Rattle.qs_core.proofs.Views.{IsView-view_at, changed, sum_by-views}
-use Rattle.qs_core.proofs.Running.{AllCame, IsLeft-from, IsSoundTasks, in_order-kept, left-unless_over, one_runs-kept, runs-kept, unclaimed-kept}
+use Rattle.qs_core.proofs.Running.{AllCame, IsGoing-from, in_order-kept, left-unless_over, one_runs-kept, runs-kept, unclaimed-kept}
+use Rattle.qs_core.proofs.UnreleasedEdges.{unreleased-few}
 
 -- a word above 0 falls by one
 falls : (word : ℕ) → 1 ≤ word → word < 2 ^ 64 → (word + (2 ^ 64 - 1)) % 2 ^ 64 + 1 ≡ word
@@ -31,73 +27,13 @@ count-rest : (xs : List ℕ) (t : ℕ) → xs ≢ [] → count_by (λ y. y == t)
 count-rest [] t some = absurd (some refl)
 count-rest (y ∷ ys) t some = sum_by-cons (λ z. cond (z == t) 1 0) y ys
 
--- an edge from one task to another stands at most once
-part-le-one : (shape : Shape) (core : Core) (task before : ℕ) → IsShape shape → before < length shape.tasks
-    → cond (slice_index core.words (task_word shape before) == claimed_word) 0 (count_by (λ s. s == task) (task_at shape before).successors) ≤ 1
-part-le-one shape core task before s l =
-    let one = (s.tasks before l).once task in
-    cond_both (slice_index core.words (task_word shape before) == claimed_word) 0 (count_by (λ s. s == task) (task_at shape before).successors) (λ n. n ≤ 1) (λ _. omega arith) (λ _. one)
-
--- a view that runs a task has its place
-abbrev runs_at : Option Running → ℕ → ℕ
-runs_at None t = 0
-runs_at (Some running) t = one_if running.task t
-
--- what a view has left is no more than the places that it has
-left-le-places : (shape : Shape) (core : Core) (task seat : ℕ) (view : View) → IsSound shape core → IsView core seat view → (o : Option Running) → view.running ≡ o
-    → left_in o task ≤ sum_by (runs_at o) (range_with_len 0 (length shape.tasks))
-left-le-places shape core task seat view sound v None e = omega arith
-left-le-places shape core task seat view sound v (Some running) e =
-    let runs = sound.runs seat view running v e in
-    let here = part-le-range (one_if running.task) running.task (length shape.tasks) runs.is_task in
-    let one = one_if-same running.task running.task refl in
-    let few = (runs.successors task).1 in
-    omega arith
-
--- what has a place runs the task
-runs_from_place : (view : View) (t : ℕ) (o : Option Running) → view.running ≡ o → 0 < runs_at o t → (running : Running) × Runs view t running
-runs_from_place view t None e some = absurd (omega arith)
-runs_from_place view t (Some running) e some =
-    elim (cases_eq running.task t) [
-      | inl same ↦ (running, record { is = e; of_task = same })
-      | inr n ↦ let none = one_if-other running.task t n in absurd (omega arith)
-    ]
-
-runs_at-le : (o : Option Running) (t : ℕ) → runs_at o t ≤ 1
-runs_at-le None t = omega arith
-runs_at-le (Some running) t = one_if-le running.task t
-
--- one view at most runs a task
-one_place : (shape : Shape) (core : Core) (t : ℕ) → IsSound shape core → sum_by (λ (v : View). runs_at v.running t) core.views ≤ 1
-one_place shape core t sound =
-    one_in_all (λ (v : View). runs_at v.running t) core.views (λ v h. runs_at-le v.running t)
-    (λ i j v w a b p q.
-    let r = runs_from_place v t v.running refl p in
-    let r' = runs_from_place w t w.running refl q in
-    sound.one_runs i j t v w r.0 r'.0 (record { is = a }) (record { is = b }) r.1 r'.1)
-
--- so the edges into a task are few
-unreleased-few : (shape : Shape) (core : Core) (task : ℕ) → IsShape shape → IsSound shape core → unreleased shape core task ≤ 2 * length shape.tasks
-unreleased-few shape core task s sound =
-    let f = λ (before : ℕ). cond (slice_index core.words (task_word shape before) == claimed_word) 0 (count_by (λ s. s == task) (task_at shape before).successors) in
-    let range = range_with_len 0 (length shape.tasks) in
-    let long = length-range_with_len 0 (length shape.tasks) in
-    let a = sum_by-le f 1 range (All-from_get_or (λ x. f x ≤ 1) range 0 (λ i l.
-    let below : i < length shape.tasks = omega arith in
-    let e : get_or range i 0 ≡ i = get_or-range_with_len 0 (length shape.tasks) i 0 below ∙ omega arith in
-    subst (λ x. f x ≤ 1) (sym e) (part-le-one shape core task i s below))) in
-    let b = few_for_places (λ (v : View). left_in v.running task) (λ (v : View). runs_at v.running) core.views (length shape.tasks)
-    (λ v h. let w = get_from_Contains core.views v h in left-le-places shape core task w.0 v sound (record { is = w.1 }) v.running refl)
-    (λ t. one_place shape core t sound) in
-    omega arith
-
 -- the view after a release of a running task
-abbrev releasing : View → Option Running → View
+abbrev pub releasing : View → Option Running → View
 releasing view old = record view { running = after_release old }
 
 -- the words after it
 abbrev fallen : Shape → Core → ℕ → List ℕ
-fallen shape core after = slice_set core.words (task_word shape after) ((slice_index core.words (task_word shape after) + (2 ^ 64 - 1)) % 2 ^ 64)
+fallen shape core after = slice_set core.words (task_place shape after) ((slice_index core.words (task_place shape after) + (2 ^ 64 - 1)) % 2 ^ 64)
 
 -- the state after it
 abbrev next : Shape → Core → ℕ → Running → Core
@@ -115,11 +51,11 @@ record CanGo (shape : Shape) (core : Core) (seat : ℕ) (running : Running) : Ty
 
 -- the word of the successor falls by one
 word-fallen : (shape : Shape) (core : Core) (seat : ℕ) (running : Running) → CanGo shape core seat running
-    → slice_index (fallen shape core (slice_index running.successors 0)) (task_word shape (slice_index running.successors 0)) + 1 ≡ unreleased shape core (slice_index running.successors 0)
+    → slice_index (fallen shape core (slice_index running.successors 0)) (task_place shape (slice_index running.successors 0)) + 1 ≡ unreleased shape core (slice_index running.successors 0)
 word-fallen shape core seat running k =
     let after = slice_index running.successors 0 in
-    let word = slice_index core.words (task_word shape after) in
-    let is : word ≡ unreleased shape core after = k.sound.task_words after k.releases.is_task k.releases.unclaimed in
+    let word = slice_index core.words (task_place shape after) in
+    let is : word ≡ unreleased shape core after = k.sound.tasks.task_words after k.releases.is_task k.releases.unclaimed in
     let some = k.releases.unreleased in
     let few = unreleased-few shape core after k.shape_is k.sound in
     let m = k.shape_is.few_tasks in
@@ -136,8 +72,8 @@ unclaimed-fallen shape core seat running k c =
     omega arith
 
 -- the word of another task stays
-other-fallen : (shape : Shape) (core : Core) (after t : ℕ) → t ≢ after → slice_index (fallen shape core after) (task_word shape t) ≡ slice_index core.words (task_word shape t)
-other-fallen shape core after t n = word-other shape core.words (task_word shape after) _ t (λ e. n (omega arith))
+other-fallen : (shape : Shape) (core : Core) (after t : ℕ) → t ≢ after → slice_index (fallen shape core after) (task_place shape t) ≡ slice_index core.words (task_place shape t)
+other-fallen shape core after t n = word-other shape core.words (task_place shape after) _ t (λ e. n (omega arith))
 
 -- what was claimed is claimed after it
 forth : (shape : Shape) (core : Core) (seat : ℕ) (running : Running) → CanGo shape core seat running → (t : ℕ) → IsClaimed shape core t → IsClaimed shape (next shape core seat running) t
@@ -154,9 +90,9 @@ back shape core seat running k t c = sym (other-fallen shape core (slice_index r
 
 -- so the tests of the words are the same
 tests_same : (shape : Shape) (core : Core) (seat : ℕ) (running : Running) → CanGo shape core seat running → (t : ℕ)
-    → (slice_index (fallen shape core (slice_index running.successors 0)) (task_word shape t) == claimed_word) ≡ (slice_index core.words (task_word shape t) == claimed_word)
+    → (slice_index (fallen shape core (slice_index running.successors 0)) (task_place shape t) == claimed_word) ≡ (slice_index core.words (task_place shape t) == claimed_word)
 tests_same shape core seat running k t =
-    elim (cases_eq (slice_index core.words (task_word shape t)) claimed_word) [
+    elim (cases_eq (slice_index core.words (task_place shape t)) claimed_word) [
       | inl c ↦ eq-eqb _ _ (forth shape core seat running k t c) ∙ sym (eq-eqb _ _ c)
       | inr n ↦ ne_eqb _ _ (λ c. n (back shape core seat running k t c)) ∙ sym (ne_eqb _ _ n)
     ]
@@ -184,7 +120,7 @@ unreleased-other shape core seat running k t n =
 -- what runs after a release ran before it
 came-release : (running : Running) → AllCame (Some running) (after_release (Some running))
 came-release running after e =
-    let left = IsLeft-from running.task running.leaves (rest running.successors) after e in
+    let left = IsGoing-from running.task running.leaves (rest running.successors) after e in
     record {
       running = running;
       was = refl;
@@ -197,8 +133,8 @@ own-release : (shape : Shape) (core : Core) (seat : ℕ) (running : Running) →
     → IsRunning shape (next shape core seat running) (releasing (view_at core.views seat) (Some running)) after
 own-release shape core seat running k after e =
     let view = view_at core.views seat in
-    let left = IsLeft-from running.task running.leaves (rest running.successors) after e in
-    let was = k.sound.runs seat view running (IsView-view_at core seat k.seat_is) k.runs in
+    let left = IsGoing-from running.task running.leaves (rest running.successors) after e in
+    let was = k.sound.tasks.runs seat view running (IsView-view_at core seat k.seat_is) k.runs in
     subst (λ (r : Running). IsRunning shape (next shape core seat running) (releasing view (Some running)) r) left.is (record {
       is_task = was.is_task;
       claimed = forth shape core seat running k running.task was.claimed;
@@ -212,7 +148,7 @@ own-release shape core seat running k after e =
     })
 
 -- the tasks after a release by a running task
-tasks-fallen : (shape : Shape) (core : Core) (seat : ℕ) (running : Running) → CanGo shape core seat running → IsSoundTasks shape (next shape core seat running)
+tasks-fallen : (shape : Shape) (core : Core) (seat : ℕ) (running : Running) → CanGo shape core seat running → AreTasksSound shape (next shape core seat running)
 tasks-fallen shape core seat running k =
     let view = view_at core.views seat in
     let words = fallen shape core (slice_index running.successors 0) in
@@ -227,13 +163,13 @@ tasks-fallen shape core seat running k =
                 let w = word-fallen shape core seat running k in
                 let u = unreleased-fallen shape core seat running k (slice_index running.successors 0) in
                 let z = cond-true {A = ℕ} (slice_index running.successors 0 == slice_index running.successors 0) 1 0 (eq-eqb _ _ refl) in
-                subst (λ t. slice_index words (task_word shape t) ≡ unreleased shape (next shape core seat running) t) (sym e) (omega arith)
+                subst (λ t. slice_index words (task_place shape t) ≡ unreleased shape (next shape core seat running) t) (sym e) (omega arith)
             | inr m ↦
                 let same = other-fallen shape core (slice_index running.successors 0) t m in
-                same ∙ k.sound.task_words t l (λ c. n (same ∙ c)) ∙ sym (unreleased-other shape core seat running k t m)
+                same ∙ k.sound.tasks.task_words t l (λ c. n (same ∙ c)) ∙ sym (unreleased-other shape core seat running k t m)
           ];
       claimed_ready = λ t l c.
-          unreleased-other shape core seat running k t (apart shape core seat running k t c) ∙ k.sound.claimed_ready t l (back shape core seat running k t c);
+          unreleased-other shape core seat running k t (apart shape core seat running k t c) ∙ k.sound.tasks.claimed_ready t l (back shape core seat running k t c);
       in_order = in_order-kept shape core words seat new k.sound k.seat_is came (λ t l c. forth shape core seat running k t c) (λ t l c. back shape core seat running k t c);
     }
 
@@ -248,9 +184,9 @@ released shape core seat old = changed core (fallen shape core (next_successor o
 
 -- the tasks after a release
 pub tasks-release : (shape : Shape) (core : Core) (seat : ℕ) → IsShape shape → IsSound shape core → seat < length core.views → CanRelease (view_at core.views seat)
-    → IsSoundTasks shape (stepped shape core seat Release)
+    → AreTasksSound shape (stepped shape core seat Release)
 tasks-release shape core seat s sound l can =
-    subst (λ (o : Option Running). IsSoundTasks shape (released shape core seat o)) (sym can.runs) (tasks-fallen shape core seat can.running (CanGo-from shape core seat s sound l can))
+    subst (λ (o : Option Running). AreTasksSound shape (released shape core seat o)) (sym can.runs) (tasks-fallen shape core seat can.running (CanGo-from shape core seat s sound l can))
 
 -- what is claimed after a release was claimed before it
 pub claimed_before_release : (shape : Shape) (core : Core) (seat task : ℕ) → IsShape shape → IsSound shape core → seat < length core.views → CanRelease (view_at core.views seat)

@@ -1,24 +1,24 @@
 -- The tasks after a return.
 use Rattle.std.proofs.Common.{◌≡◌, ℕ, ◌<◌, ◌==◌, List, [], length, slice_index, not, Contains, Option, Some, None, refl, sym, ap, ◌∙◌, subst, arith}
 use Rattle.std.proofs.lemmas.Option.{none-some}
+use Rattle.lists.proofs.Elements.{Contains-from_filter}
+use Rattle.lists.proofs.Counts.{count-filter}
 use Rattle.qs_core.specs.Shape.{Shape}
-use Rattle.qs_core.specs.Core.{Core, View, Running, task_word, view_at}
+use Rattle.qs_core.specs.Core.{Core, View, Running, task_place, view_at}
 use Rattle.qs_core.specs.Steps.{after_return, without}
-use Rattle.qs_core.specs.Sound.{IsSound, IsClaimed, IsRunning, left_in}
-use Rattle.qs_core.proofs.Edges.{count-filter}
+use Rattle.qs_core.specs.Sound.{IsSound, IsClaimed, IsRunning, left_in, AreTasksSound}
 use Rattle.qs_core.proofs.Views.{IsView-view_at, changed}
-use Rattle.qs_core.proofs.Running.{AllCame, IsLeft-from, IsSoundTasks, OwnsJust-chains, left-unless_over, tasks-plain}
-use Rattle.qs_core.proofs.Counts.{Contains-from_filter}
+use Rattle.qs_core.proofs.Running.{AllCame, IsGoing-from, OwnsJust-chains, left-unless_over, tasks-plain}
 
 -- the view after a return
-abbrev returned : View → ℕ → View
-returned view leaf = record view { out = without leaf view.out; running = after_return view.running leaf }
+abbrev pub returning : View → ℕ → View
+returning view leaf = record view { out = without leaf view.out; running = after_return view.running leaf }
 
 -- what runs after a return ran before it
 came-return : (old : Option Running) (leaf : ℕ) → AllCame old (after_return old leaf)
 came-return None leaf after e = absurd (none-some after e)
 came-return (Some running) leaf after e =
-    let left = IsLeft-from running.task (without leaf running.leaves) running.successors after e in
+    let left = IsGoing-from running.task (without leaf running.leaves) running.successors after e in
     record {
       running = running;
       was = refl;
@@ -57,16 +57,16 @@ own-return : (shape : Shape) (core after : Core) (view view' : View) (leaf : ℕ
     → (running : Running) → after_return old leaf ≡ Some running → IsRunning shape after view' running
 own-return shape core after view view' leaf None is runs claims e running a = absurd (none-some running a)
 own-return shape core after view view' leaf (Some was) is runs claims e running a =
-    let left = IsLeft-from was.task (without leaf was.leaves) was.successors running a in
+    let left = IsGoing-from was.task (without leaf was.leaves) was.successors running a in
     let r = runs was is in
     subst (λ (r : Running). IsRunning shape after view' r) left.is (fewer-leaves shape core after view view' was leaf r (claims was r) e left.some)
 
 -- the tasks after a return
 pub tasks-return : (shape : Shape) (core : Core) (words : List ℕ) (seat leaf : ℕ) → IsSound shape core → seat < length core.views
-    → ((t : ℕ) → slice_index words (task_word shape t) ≡ slice_index core.words (task_word shape t))
-    → IsSoundTasks shape (changed core words seat (returned (view_at core.views seat) leaf))
+    → ((t : ℕ) → slice_index words (task_place shape t) ≡ slice_index core.words (task_place shape t))
+    → AreTasksSound shape (changed core words seat (returning (view_at core.views seat) leaf))
 tasks-return shape core words seat leaf sound l same =
     let view = view_at core.views seat in
-    tasks-plain shape core words seat (returned view leaf) sound l same (came-return view.running leaf) (left-return view.running leaf)
-    (own-return shape core (changed core words seat (returned view leaf)) view (returned view leaf) leaf view.running refl
-    (λ running r. sound.runs seat view running (IsView-view_at core seat l) r) (λ running r. same running.task ∙ r.claimed) refl)
+    tasks-plain shape core words seat (returning view leaf) sound l same (came-return view.running leaf) (left-return view.running leaf)
+    (own-return shape core (changed core words seat (returning view leaf)) view (returning view leaf) leaf view.running refl
+    (λ running r. sound.tasks.runs seat view running (IsView-view_at core seat l) r) (λ running r. same running.task ∙ r.claimed) refl)

@@ -3,15 +3,16 @@ use Rattle.std.proofs.Common.{◌≡◌, ◌≢◌, ℕ, ◌-◌, ◌<◌, ◌�
 use Rattle.std.specs.Bool.{⊤}
 use Rattle.std.proofs.lemmas.Bool.{cases_lt}
 use Rattle.std.proofs.lemmas.List.{get_or_past, get_or-set_same, get_or-set_other}
+use Rattle.lists.proofs.Elements.{first-contained}
+use Rattle.lists.proofs.Counts.{count-pos}
 use Rattle.qs_core.specs.declared.event.Step.{Step}
 use Rattle.qs_core.specs.declared.event.Step.TheVariants.{Lock, Raise, Lower, Unlock, Fetch, Return, Claim, Release}
 use Rattle.qs_core.specs.Shape.{Shape, IsShape, IsEdge, ancestors}
-use Rattle.qs_core.specs.Core.{Core, View, Running, task_word, view_at}
-use Rattle.qs_core.specs.Steps.{Allowed, CanRelease, newest, word_of, object_of, next_successor}
+use Rattle.qs_core.specs.Core.{Core, View, Running, task_place, view_at}
+use Rattle.qs_core.specs.Steps.{Allowed, CanRelease, newest, place_of, object_of, next_successor}
 use Rattle.qs_core.specs.Sound.{IsSound, IsClaimed, left_in, unreleased}
 use Rattle.qs_core.proofs.Ancestors.{ancestor_is_cell}
 use Rattle.qs_core.proofs.Views.{IsView-view_at, part-le-sum_by}
-use Rattle.qs_core.proofs.Counts.{count-pos, first-contained}
 use Rattle.qs_core.proofs.Chains.{newest_is}
 
 -- the ancestors of a cell are cells, and past the last of them cell 0 is read
@@ -23,12 +24,12 @@ ancestor-below shape cell i s l =
     ]
 
 -- the word of a task stays where another word is written
-pub word-other : (shape : Shape) (words : List ℕ) (word value task : ℕ) → task_word shape task ≢ word → slice_index (slice_set words word value) (task_word shape task) ≡ slice_index words (task_word shape task)
-word-other shape words word value task n = get_or-set_other words word (task_word shape task) value 0 n
+pub word-other : (shape : Shape) (words : List ℕ) (place value task : ℕ) → task_place shape task ≢ place → slice_index (slice_set words place value) (task_place shape task) ≡ slice_index words (task_place shape task)
+word-other shape words place value task n = get_or-set_other words place (task_place shape task) value 0 n
 
 -- a word that is written is there
-pub word-same : (shape : Shape) (core : Core) (value task : ℕ) → IsSound shape core → task < length shape.tasks → slice_index (slice_set core.words (task_word shape task) value) (task_word shape task) ≡ value
-word-same shape core value task s l = get_or-set_same core.words (task_word shape task) value 0 (let e = s.words in omega arith)
+pub word-same : (shape : Shape) (core : Core) (value task : ℕ) → IsSound shape core → task < length shape.tasks → slice_index (slice_set core.words (task_place shape task) value) (task_place shape task) ≡ value
+word-same shape core value task s l = get_or-set_same core.words (task_place shape task) value 0 (let e = s.locks.words in omega arith)
 
 -- a step on the word of a cell or a leaf
 abbrev pub LeavesTasks : Step → Type 0
@@ -36,28 +37,27 @@ LeavesTasks (Claim task) = ⊥
 LeavesTasks Release = ⊥
 LeavesTasks _ = ⊤
 
--- its word is no task's
-pub word-apart : (shape : Shape) (core : Core) (seat : ℕ) (step : Step) (task : ℕ) → IsShape shape → IsSound shape core → seat < length core.views → Allowed shape (view_at core.views seat) step → LeavesTasks step
-    → task_word shape task ≢ word_of shape step (object_of shape (view_at core.views seat) step)
-word-apart shape core seat (Lock cell) task s sound l a p = λ e. let c = a.is_cell in omega arith
-word-apart shape core seat Raise task s sound l a p =
+-- its place is no task's
+pub place-apart : (shape : Shape) (core : Core) (seat : ℕ) (step : Step) (task : ℕ) → IsShape shape → IsSound shape core → seat < length core.views → Allowed shape (view_at core.views seat) step → LeavesTasks step
+    → task_place shape task ≢ place_of shape step (object_of shape (view_at core.views seat) step)
+place-apart shape core seat (Lock cell) task s sound l a p = λ e. let c = a.is_cell in omega arith
+place-apart shape core seat Raise task s sound l a p =
     let view = view_at core.views seat in
-    let cell = (newest_is shape core view (sound.chains seat view (IsView-view_at core seat l)) a.some).0 in
+    let cell = (newest_is shape core seat l sound.locks.cells a.some).0 in
     let c = ancestor-below shape (newest view).cell (newest view).raises s cell in
     λ e. omega arith
-word-apart shape core seat Lower task s sound l a p =
+place-apart shape core seat Lower task s sound l a p =
     let view = view_at core.views seat in
-    let cell = (newest_is shape core view (sound.chains seat view (IsView-view_at core seat l)) a.some).0 in
+    let cell = (newest_is shape core seat l sound.locks.cells a.some).0 in
     let c = ancestor-below shape (newest view).cell ((newest view).raises - 1) s cell in
     λ e. omega arith
-word-apart shape core seat Unlock task s sound l a p =
-    let view = view_at core.views seat in
-    let cell = (newest_is shape core view (sound.chains seat view (IsView-view_at core seat l)) a.some).0 in
+place-apart shape core seat Unlock task s sound l a p =
+    let cell = (newest_is shape core seat l sound.locks.cells a.some).0 in
     λ e. omega arith
-word-apart shape core seat (Fetch leaf) task s sound l a p = λ e. let c = a.is_leaf in omega arith
-word-apart shape core seat (Return leaf) task s sound l a p = λ e. let c = a.is_leaf in omega arith
-word-apart shape core seat (Claim t) task s sound l a p = absurd p
-word-apart shape core seat Release task s sound l a p = absurd p
+place-apart shape core seat (Fetch leaf) task s sound l a p = λ e. let c = a.is_leaf in omega arith
+place-apart shape core seat (Return leaf) task s sound l a p = λ e. let c = a.is_leaf in omega arith
+place-apart shape core seat (Claim t) task s sound l a p = absurd p
+place-apart shape core seat Release task s sound l a p = absurd p
 
 -- what is known where a successor is released
 pub record IsReleasing (shape : Shape) (core : Core) (view : View) (running : Running) (after : ℕ) : Type 0 where
@@ -76,7 +76,7 @@ IsReleasing-from shape core seat s sound l a =
     let view = view_at core.views seat in
     let after = slice_index a.running.successors 0 in
     let v = IsView-view_at core seat l in
-    let runs = sound.runs seat view a.running v a.runs in
+    let runs = sound.tasks.runs seat view a.running v a.runs in
     let left : Contains a.running.successors after = first-contained a.running.successors a.left in
     let edge = (runs.successors after).0 left in
     let below = ((s.tasks a.running.task runs.is_task).later after edge).1 in
@@ -90,5 +90,5 @@ IsReleasing-from shape core seat s sound l a =
       is_task = below;
       counted = counted;
       unreleased = unreleased;
-      unclaimed = λ c. let z = sound.claimed_ready after below c in omega arith;
+      unclaimed = λ c. let z = sound.tasks.claimed_ready after below c in omega arith;
     }

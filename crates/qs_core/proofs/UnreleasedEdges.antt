@@ -3,15 +3,18 @@ use Rattle.std.proofs.Common.{◌≡◌, ◌↔◌, ℕ, ◌+◌, ◌<◌, ◌�
 use Rattle.std.specs.List.{range_with_len}
 use Rattle.std.proofs.lemmas.Bool.{cases_eq, cases_lt, cond-true, cond-false, eq-eqb, ne_eqb, eqb-true}
 use Rattle.std.proofs.lemmas.List.Elements.{All-contains, filter_passes}
-use Rattle.std.proofs.lemmas.List.Sums.{length-filter}
+use Rattle.std.proofs.lemmas.List.FromFn.{length-range_with_len}
+use Rattle.std.proofs.lemmas.List.Sums.{length-filter, sum_by-le}
+use Rattle.lists.proofs.Ranges.{below_from_numbers, Contains-numbers, count-range, sum_by-range_change}
+use Rattle.lists.proofs.Sums.{some_share, sum_by-none, one_in_all, sum_by-add, sum_by-turned, sum_by-le_each}
+use Rattle.lists.proofs.Places.{get_from_Contains}
+use Rattle.lists.proofs.Counts.{Contains-from_count, count-pos, count-filter}
+use Rattle.lists.proofs.Elements.{All-from_Contains, Contains-filter, Contains-from_filter}
 use Rattle.qs_core.specs.Shape.{Shape, IsEdge, IsShape, task_at}
-use Rattle.qs_core.specs.Core.{Core, Running, View, claimed_word, task_word}
-use Rattle.qs_core.specs.Sound.{IsClaimed, IsReleased, IsSound, IsView, left_in, unreleased}
+use Rattle.qs_core.specs.Core.{Core, Running, View, claimed_word, task_place}
+use Rattle.qs_core.specs.Sound.{edges_from, IsClaimed, IsReleased, IsSound, IsView, left_in, unreleased}
 use Rattle.qs_core.specs.Laws.{UnreleasedAreCounted}
-use Rattle.qs_core.proofs.Counts.{Contains-filter, Contains-from_count, Contains-from_filter, count-pos, get_from_Contains, some_share, sum_by-none}
-use Rattle.qs_core.proofs.Edges.{Contains-range, count-filter, count-range, range-within, sum_by-range_change}
-use Rattle.qs_core.proofs.ReleasedEdges.{edges_from}
-use Rattle.qs_core.proofs.Totals.{one_in_all, sum_by-plus, sum_by-turned, sum_by-within}
+use Rattle.qs_core.proofs.ReleasedEdges.{edges_from-claimed, edges_from-other}
 use Rattle.qs_core.proofs.Views.{part-le-sum_by}
 
 -- how many edges from a task into another a view has left
@@ -46,13 +49,6 @@ module _ (shape : Shape) (core : Core) (after : ℕ) (s : IsShape shape) (sound 
   abbrev edges_of : ℕ → ℕ
   edges_of before = edges_from shape core after before + left_of before
 
-  -- of a claimed task only those left in views count, and of another all
-  of_claimed : (before : ℕ) → IsClaimed shape core before → edges_from shape core after before ≡ 0
-  of_claimed before c = cond-true (slice_index core.words (task_word shape before) == claimed_word) 0 (count_by (λ t. t == after) (task_at shape before).successors) (eq-eqb _ _ c)
-
-  of_other : (before : ℕ) → (IsClaimed shape core before → ⊥) → edges_from shape core after before ≡ count_by (λ t. t == after) (task_at shape before).successors
-  of_other before n = cond-false (slice_index core.words (task_word shape before) == claimed_word) 0 (count_by (λ t. t == after) (task_at shape before).successors) (ne_eqb _ _ n)
-
   -- a view has one left at most
   each_left : (seat : ℕ) (view : View) → IsView core seat view → (before : ℕ) → left_from view.running after before ≤ 1
   each_left seat view v before = go view.running refl
@@ -62,7 +58,7 @@ module _ (shape : Shape) (core : Core) (after : ℕ) (s : IsShape shape) (sound 
       go (Some running) e = elim (cases_eq running.task before) [
         | inl same ↦
             let t = cond-true (running.task == before) (count_by (λ t. t == after) running.successors) 0 (eq-eqb _ _ same) in
-            let few = ((sound.runs seat view running v e).successors after).1 in
+            let few = ((sound.tasks.runs seat view running v e).successors after).1 in
             omega arith
         | inr n ↦ let f = cond-false (running.task == before) (count_by (λ t. t == after) running.successors) 0 (ne_eqb _ _ n) in omega arith
       ]
@@ -72,7 +68,7 @@ module _ (shape : Shape) (core : Core) (after : ℕ) (s : IsShape shape) (sound 
       (λ v h. let w = get_from_Contains core.views v h in each_left w.0 v (record { is = w.1 }) before) (λ i j x y p q l m.
       let a = has_left x.running after before l in
       let b = has_left y.running after before m in
-      sound.one_runs i j before x y a.running b.running (record { is = p }) (record { is = q }) (record { is = a.is; of_task = a.of_task })
+      sound.tasks.one_runs i j before x y a.running b.running (record { is = p }) (record { is = q }) (record { is = a.is; of_task = a.of_task })
       (record { is = b.is; of_task = b.of_task }))
 
   -- a task with an edge left in a view is claimed
@@ -80,13 +76,13 @@ module _ (shape : Shape) (core : Core) (after : ℕ) (s : IsShape shape) (sound 
   left_claimed before view h l =
       let w = get_from_Contains core.views view h in
       let a = has_left view.running after before l in
-      subst (λ t. IsClaimed shape core t) a.of_task (sound.runs w.0 view a.running (record { is = w.1 }) a.is).claimed
+      subst (λ t. IsClaimed shape core t) a.of_task (sound.tasks.runs w.0 view a.running (record { is = w.1 }) a.is).claimed
 
   few_edges : (before : ℕ) → before < length shape.tasks → edges_of before ≤ 1
-  few_edges before l = elim (cases_eq (slice_index core.words (task_word shape before)) claimed_word) [
-    | inl c ↦ let none = of_claimed before c in let few = left_few before in omega arith
+  few_edges before l = elim (cases_eq (slice_index core.words (task_place shape before)) claimed_word) [
+    | inl c ↦ let none = edges_from-claimed shape core after before c in let few = left_few before in omega arith
     | inr n ↦
-        let all = of_other before n in
+        let all = edges_from-other shape core after before n in
         let once = (s.tasks before l).once after in
         let none = sum_by-none (λ (v : View). left_from v.running after before) core.views
         (λ v h. elim (cases_lt 0 (left_from v.running after before)) [ inl some ↦ absurd (n (left_claimed before v h some)) | inr z ↦ omega arith ]) in
@@ -98,9 +94,9 @@ module _ (shape : Shape) (core : Core) (after : ℕ) (s : IsShape shape) (sound 
   edge_counts before edge n = elim (cases_lt 0 (edges_of before)) [
     | inl l ↦ l
     | inr z ↦ absurd (n (record {
-      claimed = elim (cases_eq (slice_index core.words (task_word shape before)) claimed_word) [
+      claimed = elim (cases_eq (slice_index core.words (task_place shape before)) claimed_word) [
         | inl c ↦ c
-        | inr m ↦ let all = of_other before m in let some = count-pos (task_at shape before).successors after edge in absurd (omega arith)
+        | inr m ↦ let all = edges_from-other shape core after before m in let some = count-pos (task_at shape before).successors after edge in absurd (omega arith)
       ];
       none_left = λ seat view running v r c.
           let part = part-le-sum_by (λ (w : View). left_from w.running after before) core seat view v in
@@ -113,16 +109,16 @@ module _ (shape : Shape) (core : Core) (after : ℕ) (s : IsShape shape) (sound 
 
   counts_edge : (before : ℕ) → 0 < edges_of before → IsEdge shape before after × (IsReleased shape core before after → ⊥)
   counts_edge before l = elim (cases_lt 0 (edges_from shape core after before)) [
-    | inl some ↦ elim (cases_eq (slice_index core.words (task_word shape before)) claimed_word) [
-      | inl c ↦ let none = of_claimed before c in absurd (omega arith)
-      | inr n ↦ let all = of_other before n in (Contains-from_count (task_at shape before).successors after (omega arith), λ r. n r.claimed)
+    | inl some ↦ elim (cases_eq (slice_index core.words (task_place shape before)) claimed_word) [
+      | inl c ↦ let none = edges_from-claimed shape core after before c in absurd (omega arith)
+      | inr n ↦ let all = edges_from-other shape core after before n in (Contains-from_count (task_at shape before).successors after (omega arith), λ r. n r.claimed)
     ]
     | inr none ↦
         let w = some_share (λ (v : View). left_from v.running after before) core.views (omega arith) in
         let g = get_from_Contains core.views w.0 w.1 in
         let a = has_left w.0.running after before w.2 in
         let v : IsView core g.0 w.0 = record { is = g.1 } in
-        let runs = sound.runs g.0 w.0 a.running v a.is in (
+        let runs = sound.tasks.runs g.0 w.0 a.running v a.is in (
           subst (λ t. IsEdge shape t after) a.of_task ((runs.successors after).0 a.left),
           λ r. r.none_left g.0 w.0 a.running v (record { is = a.is; of_task = a.of_task }) a.left,
         )
@@ -136,7 +132,7 @@ module _ (shape : Shape) (core : Core) (after : ℕ) (s : IsShape shape) (sound 
       go None e = sum_by-none (λ before. 0) all_tasks (λ before c. refl)
       go (Some running) e =
           let w = get_from_Contains core.views view h in
-          let below = (sound.runs w.0 view running (record { is = w.1 }) e).is_task in
+          let below = (sound.tasks.runs w.0 view running (record { is = w.1 }) e).is_task in
           let change = sum_by-range_change (λ before. left_from (Some running) after before) (λ before. 0) running.task 0 (length shape.tasks)
           (λ i n. cond-false (running.task == i) (count_by (λ t. t == after) running.successors) 0 (ne_eqb _ _ (λ q. n (sym q)))) (omega arith) (omega arith) in
           let zero = sum_by-none (λ before. 0) all_tasks (λ before c. refl) in
@@ -145,12 +141,20 @@ module _ (shape : Shape) (core : Core) (after : ℕ) (s : IsShape shape) (sound 
 
   total : sum_by edges_of all_tasks ≡ unreleased shape core after
   total =
-      let a = sum_by-plus (edges_from shape core after) left_of all_tasks in
+      let a = sum_by-add (edges_from shape core after) left_of all_tasks in
       let b = sum_by-turned (λ before (v : View). left_from v.running after before) all_tasks core.views in
-      let c = sum_by-within (λ (v : View). sum_by (λ before. left_from v.running after before) all_tasks) (λ (v : View). left_in v.running after) core.views
+      let c = sum_by-le_each (λ (v : View). sum_by (λ before. left_from v.running after before) all_tasks) (λ (v : View). left_in v.running after) core.views
       (λ v h. let e = one_view v h in omega arith) in
-      let d = sum_by-within (λ (v : View). left_in v.running after) (λ (v : View). sum_by (λ before. left_from v.running after before) all_tasks) core.views
+      let d = sum_by-le_each (λ (v : View). left_in v.running after) (λ (v : View). sum_by (λ before. left_from v.running after before) all_tasks) core.views
       (λ v h. let e = one_view v h in omega arith) in
+      omega arith
+
+  -- so no more than there are tasks
+  pub unreleased-few : unreleased shape core after ≤ length shape.tasks
+  unreleased-few =
+      let few = sum_by-le edges_of 1 all_tasks (All-from_Contains (λ before. edges_of before ≤ 1) all_tasks (λ before h. few_edges before (below_from_numbers (length shape.tasks) before h))) in
+      let long = length-range_with_len 0 (length shape.tasks) in
+      let t = total in
       omega arith
 
   -- the tasks that count, one each
@@ -159,7 +163,7 @@ module _ (shape : Shape) (core : Core) (after : ℕ) (s : IsShape shape) (sound 
 
   one_each : (before : ℕ) → Contains all_tasks before → edges_of before ≡ cond (edges_of before == 1) 1 0
   one_each before h =
-      let few = few_edges before (let w = range-within 0 (length shape.tasks) before h in let u = w.1 in omega arith) in
+      let few = few_edges before (below_from_numbers (length shape.tasks) before h) in
       elim (cases_eq (edges_of before) 1) [
         | inl e ↦ e ∙ sym (cond-true (edges_of before == 1) 1 0 (eq-eqb _ _ e))
         | inr n ↦ let zero : edges_of before ≡ 0 = omega arith in zero ∙ sym (cond-false (edges_of before == 1) 1 0 (ne_eqb _ _ n))
@@ -168,22 +172,22 @@ module _ (shape : Shape) (core : Core) (after : ℕ) (s : IsShape shape) (sound 
   as_many : length unreleased_tasks ≡ unreleased shape core after
   as_many =
       let a = length-filter (λ before. edges_of before == 1) all_tasks in
-      let b = sum_by-within edges_of (λ before. cond (edges_of before == 1) 1 0) all_tasks (λ before h. let e = one_each before h in omega arith) in
-      let c = sum_by-within (λ before. cond (edges_of before == 1) 1 0) edges_of all_tasks (λ before h. let e = one_each before h in omega arith) in
+      let b = sum_by-le_each edges_of (λ before. cond (edges_of before == 1) 1 0) all_tasks (λ before h. let e = one_each before h in omega arith) in
+      let c = sum_by-le_each (λ before. cond (edges_of before == 1) 1 0) edges_of all_tasks (λ before h. let e = one_each before h in omega arith) in
       let t = total in
       omega arith
 
   just_those : (before : ℕ) → Contains unreleased_tasks before ↔ ((before < length shape.tasks) × IsEdge shape before after × (IsReleased shape core before after → ⊥))
   just_those before = (
     λ h.
-        let within = (range-within 0 (length shape.tasks) before (Contains-from_filter (λ b. edges_of b == 1) all_tasks before h)).1 in
+        let within = below_from_numbers (length shape.tasks) before (Contains-from_filter (λ b. edges_of b == 1) all_tasks before h) in
         let one = eqb-true (edges_of before) 1 (All-contains (λ b. (edges_of b == 1) ≡ true) unreleased_tasks before (filter_passes (λ b. edges_of b == 1) all_tasks) h) in
         let edge = counts_edge before (omega arith) in
-        (omega arith, edge.0, edge.1),
+        (within, edge.0, edge.1),
     λ w.
         let few = few_edges before w.0 in
         let some = edge_counts before w.1 w.2 in
-        Contains-filter (λ b. edges_of b == 1) all_tasks before (Contains-range 0 (length shape.tasks) before (omega arith) (let l = w.0 in omega arith)) (eq-eqb (edges_of before) 1 (omega arith)),
+        Contains-filter (λ b. edges_of b == 1) all_tasks before (eq-eqb (edges_of before) 1 (omega arith)) (Contains-numbers (length shape.tasks) before w.0),
   )
 
 pub unreleased_are_counted : UnreleasedAreCounted

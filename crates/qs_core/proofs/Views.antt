@@ -1,39 +1,14 @@
 -- The views and the words after a step of one seat.
-use Rattle.std.proofs.Common.{◌≡◌, ◌≢◌, ℕ, zero, suc, ◌+◌, ◌<◌, ◌≤◌, ◌⊎◌, List, [], ◌∷◌, length, get_or, set, slice_get, slice_set, sum_by, Some, refl, sym, ap, ◌∙◌, inl, inr, length-set}
+use Rattle.std.proofs.Common.{◌≡◌, ◌≢◌, ℕ, ◌+◌, ◌<◌, ◌≤◌, ◌⊎◌, List, length, get_or, set, slice_get, slice_set, sum_by, Some, sym, ap, ◌∙◌, inl, inr}
+use Rattle.std.specs.Prelude.{unwrap_or}
 use Rattle.std.proofs.lemmas.Bool.{cases_eq}
-use Rattle.std.proofs.lemmas.List.{get_or-set_same}
 use Rattle.std.proofs.lemmas.List.Sums.{sum_by-set}
-use Rattle.std.proofs.lemmas.Option.{none-some, slice_get-get_or, slice_get_within, same_Some}
-use Rattle.qs_core.specs.Shape.{Shape, or_else, task_at, no_task}
+use Rattle.std.proofs.lemmas.Option.{slice_get-get_or, same_Some, unwrap_or-slice_get}
+use Rattle.lists.proofs.Sums.{share-le}
+use Rattle.lists.proofs.Places.{Contains-from_slice_get, slice_get-set_same, slice_get-set_other}
+use Rattle.qs_core.specs.Shape.{Shape, task_at, no_task}
 use Rattle.qs_core.specs.Core.{Core, View, empty_view, view_at}
 use Rattle.qs_core.specs.Sound.{IsView}
-use Rattle.qs_core.proofs.Counts.{Contains-from_get, share-le}
-
--- an element that was put is there
-pub slice_get-set_same : {X : Type 0} (xs : List X) (i : ℕ) (y : X) → i < length xs → slice_get (set xs i y) i ≡ Some y
-slice_get-set_same xs i y l = slice_get-get_or (set xs i y) i y (rw (length-set xs i y) l) ∙ ap Some (get_or-set_same xs i y y l)
-
--- the other elements stay
-pub slice_get-set_other : {X : Type 0} (xs : List X) (i j : ℕ) (y : X) → j ≢ i → slice_get (set xs i y) j ≡ slice_get xs j
-slice_get-set_other [] i j y n = refl
-slice_get-set_other (x ∷ xs) zero zero y n = absurd (n refl)
-slice_get-set_other (x ∷ xs) zero (suc j) y n = refl
-slice_get-set_other (x ∷ xs) (suc i) zero y n = refl
-slice_get-set_other (x ∷ xs) (suc i) (suc j) y n = slice_get-set_other xs i j y (λ e. n (ap suc e))
-
--- what stands at a place after a write
-pub slice_get-set_cases : {X : Type 0} (xs : List X) (i j : ℕ) (y z : X) → slice_get (set xs i y) j ≡ Some z → ((j ≡ i) × (y ≡ z)) ⊎ (slice_get xs j ≡ Some z)
-slice_get-set_cases [] i j y z e = absurd (none-some z e)
-slice_get-set_cases (x ∷ xs) zero zero y z e = inl (refl, same_Some y z e)
-slice_get-set_cases (x ∷ xs) zero (suc j) y z e = inr e
-slice_get-set_cases (x ∷ xs) (suc i) zero y z e = inr e
-slice_get-set_cases (x ∷ xs) (suc i) (suc j) y z e = elim (slice_get-set_cases xs i j y z e) [ inl p ↦ inl (ap suc p.0, p.1) | inr q ↦ inr q ]
-
--- an element, or else a default
-pub or_else-get_or : {X : Type 0} (d : X) (xs : List X) (i : ℕ) → or_else d (slice_get xs i) ≡ get_or xs i d
-or_else-get_or d [] i = refl
-or_else-get_or d (x ∷ xs) zero = refl
-or_else-get_or d (x ∷ xs) (suc i) = or_else-get_or d xs i
 
 -- the state with a seat's view and the words changed
 abbrev pub changed : Core → List ℕ → ℕ → View → Core
@@ -41,7 +16,7 @@ changed core words seat new = record { words = words; views = slice_set core.vie
 
 -- the view of a seat is an element
 pub view_at-get_or : (views : List View) (seat : ℕ) → view_at views seat ≡ get_or views seat empty_view
-view_at-get_or views seat = or_else-get_or empty_view views seat
+view_at-get_or views seat = unwrap_or-slice_get views seat empty_view
 
 -- a seat below the count has its view
 pub IsView-view_at : (core : Core) (seat : ℕ) → seat < length core.views → IsView core seat (view_at core.views seat)
@@ -49,15 +24,7 @@ IsView-view_at core seat l = record { is = slice_get-get_or core.views seat empt
 
 -- the view of a seat is the one that it has
 pub view_at_is : (core : Core) (seat : ℕ) (view : View) → IsView core seat view → view_at core.views seat ≡ view
-view_at_is core seat view v = ap (or_else empty_view) v.is
-
--- a seat with a view is below the count
-pub seat_below : (core : Core) (seat : ℕ) (view : View) → IsView core seat view → seat < length core.views
-seat_below core seat view v = slice_get_within core.views seat view v.is
-
--- after a change the seat has its new view
-pub IsView-changed_same : (core : Core) (words : List ℕ) (seat : ℕ) (new : View) → seat < length core.views → IsView (changed core words seat new) seat new
-IsView-changed_same core words seat new l = record { is = slice_get-set_same core.views seat new l }
+view_at_is core seat view v = ap (λ o. unwrap_or o empty_view) v.is
 
 -- another seat keeps its view
 pub IsView-changed_other : (core : Core) (words : List ℕ) (seat : ℕ) (new : View) (other : ℕ) (view : View) → other ≢ seat
@@ -65,10 +32,10 @@ pub IsView-changed_other : (core : Core) (words : List ℕ) (seat : ℕ) (new : 
 IsView-changed_other core words seat new other view n v = record { is = slice_get-set_other core.views seat other new n ∙ v.is }
 
 pub view_at-changed_same : (views : List View) (seat : ℕ) (new : View) → seat < length views → view_at (slice_set views seat new) seat ≡ new
-view_at-changed_same views seat new l = ap (or_else empty_view) (slice_get-set_same views seat new l)
+view_at-changed_same views seat new l = ap (λ o. unwrap_or o empty_view) (slice_get-set_same views seat new l)
 
 pub view_at-changed_other : (views : List View) (seat other : ℕ) (new : View) → other ≢ seat → view_at (slice_set views seat new) other ≡ view_at views other
-view_at-changed_other views seat other new n = ap (or_else empty_view) (slice_get-set_other views seat other new n)
+view_at-changed_other views seat other new n = ap (λ o. unwrap_or o empty_view) (slice_get-set_other views seat other new n)
 
 -- a view after a change: the new one of the seat
 pub record IsNew (seat : ℕ) (new : View) (other : ℕ) (view : View) : Type 0 where
@@ -96,8 +63,8 @@ sum_by-views f views seat new l = rw (view_at-get_or views seat) (sum_by-set f v
 
 -- a view's part is at most the sum
 pub part-le-sum_by : (f : View → ℕ) (core : Core) (seat : ℕ) (view : View) → IsView core seat view → f view ≤ sum_by f core.views
-part-le-sum_by f core seat view v = share-le f core.views view (Contains-from_get core.views seat view v.is)
+part-le-sum_by f core seat view v = share-le f core.views view (Contains-from_slice_get core.views seat view v.is)
 
 -- the shape of a task is an element
 pub task_at-get_or : (shape : Shape) (task : ℕ) → task_at shape task ≡ get_or shape.tasks task no_task
-task_at-get_or shape task = or_else-get_or no_task shape.tasks task
+task_at-get_or shape task = unwrap_or-slice_get shape.tasks task no_task

@@ -1,8 +1,8 @@
 -- A walk up from a cell, through its ancestors.
 use Rattle.std.proofs.Common.{◌≡◌, ℕ, zero, suc, ◌+◌, ◌-◌, ◌<◌, ◌≤◌, ◌↔◌, List, [], ◌∷◌, length, get_or, Contains, Option, Some, None, refl, sym, ap, inl, inr, ◌∙◌, subst, arith}
+use Rattle.lists.proofs.Elements.{Contains-cons_cases, Contains-head, Contains-later, Contains-nil}
 use Rattle.qs_core.specs.Shape.{Shape, IsShape, CellContains, ancestors, cells_up, parent_of}
 use Rattle.qs_core.proofs.Ancestors.{parent_below}
-use Rattle.qs_core.proofs.Counts.{Contains-cons_cases, Contains-first, Contains-later, Contains-nil}
 
 -- the cells from one up, the cell first
 abbrev pub line_up : Shape → Option ℕ → List ℕ
@@ -72,7 +72,7 @@ contains-step shape is outer cell n = go (parent_of shape cell) (ancestors-line_
         | inr in' ↦ elim (Contains-cons_cases a (ancestors shape a) outer (subst (λ xs. Contains xs outer) e in')) [ inl s ↦ inl (sym s) | inr h ↦ inr h ]
       ],
       λ c. inr (subst (λ xs. Contains xs outer) (sym e) (elim c [
-        | inl s ↦ subst (λ x. Contains (a ∷ ancestors shape a) x) (sym s) (Contains-first a (ancestors shape a))
+        | inl s ↦ subst (λ x. Contains (a ∷ ancestors shape a) x) (sym s) (Contains-head a (ancestors shape a))
         | inr h ↦ Contains-later a (ancestors shape a) outer h
       ])),
     )

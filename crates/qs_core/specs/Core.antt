@@ -1,6 +1,6 @@
 -- The state of the machine: a word for each cell, leaf and task, and what each seat knows.
-use Rattle.std.specs.Prelude.{◌≡◌, ℕ, ◌+◌, ◌^◌, Bool, false, List, [], ◌∷◌, ◌++◌, length, map, replicate, slice_get, Contains, Option, None}
-use Rattle.qs_core.specs.Shape.{Shape, ancestors, edges_into, or_else}
+use Rattle.std.specs.Prelude.{◌≡◌, ℕ, ◌+◌, ◌^◌, Bool, false, List, [], ◌∷◌, ◌++◌, length, map, replicate, slice_get, Contains, Option, None, unwrap_or}
+use Rattle.qs_core.specs.Shape.{Shape, ancestors, edges_into}
 use Rattle.std.specs.List.{range_with_len}
 
 -- a locked cell with its ancestors raised so far, parent first; whether the last raise found its ancestor locked, and whether the chain is being given back
@@ -25,19 +25,20 @@ pub record View : Type 0 where
 abbrev pub empty_view : View
 empty_view = record { chains = []; out = []; running = None }
 
--- the words stand in one list: word 0 is the seats' own and stays 0, then come those of the cells, of the leaves and of the tasks
+-- the words stand in one list: at place 0 that of the seats, which stays 0, then those of the cells, of the leaves and of the tasks
 pub record Core : Type 0 where
   pub words : List ℕ
   pub views : List View
 
-abbrev pub cell_word : Shape → ℕ → ℕ
-cell_word shape cell = 1 + cell
+-- the place of the word of a cell, of a leaf and of a task, and how many places there are
+abbrev pub cell_place : Shape → ℕ → ℕ
+cell_place shape cell = 1 + cell
 
-abbrev pub leaf_word : Shape → ℕ → ℕ
-leaf_word shape leaf = 1 + length shape.parents + leaf
+abbrev pub leaf_place : Shape → ℕ → ℕ
+leaf_place shape leaf = 1 + length shape.parents + leaf
 
-abbrev pub task_word : Shape → ℕ → ℕ
-task_word shape task = 1 + length shape.parents + shape.leaves + task
+abbrev pub task_place : Shape → ℕ → ℕ
+task_place shape task = 1 + length shape.parents + shape.leaves + task
 
 abbrev pub word_count : Shape → ℕ
 word_count shape = 1 + length shape.parents + shape.leaves + length shape.tasks
@@ -46,9 +47,13 @@ word_count shape = 1 + length shape.parents + shape.leaves + length shape.tasks
 abbrev pub claimed_word : ℕ
 claimed_word = 2 ^ 63
 
+-- the state with a seat more, which holds nothing
+abbrev pub with_seat : Core → Core
+with_seat core = record core { views = core.views ++ empty_view ∷ [] }
+
 -- the view of a seat
 abbrev pub view_at : List View → ℕ → View
-view_at views seat = or_else empty_view (slice_get views seat)
+view_at views seat = unwrap_or (slice_get views seat) empty_view
 
 -- the chain's cell is owned: all its ancestors are raised, none was found locked, and it isn't being given back
 pub record IsComplete (shape : Shape) (chain : Chain) : Type 0 where

@@ -2,9 +2,10 @@
 use Rattle.std.specs.Prelude.{◌≡◌, ◌⊎◌, ℕ, ◌<◌, ◌≤◌, ◌==◌, ◌↔◌, List, [], ◌∷◌, ◌++◌, length, count_by, Contains}
 use Rattle.qs_core.specs.declared.event.Event.{Event}
 use Rattle.qs_core.specs.Shape.{Shape, IsEdge, IsShape, Precedes, Touches}
-use Rattle.qs_core.specs.Core.{Core, empty_view, opening}
+use Rattle.qs_core.specs.Core.{Core, opening, with_seat}
 use Rattle.qs_core.specs.Steps.{IsAllowed, effect}
 use Rattle.qs_core.specs.Sound.{IsClaimed, IsDone, IsExclusive, IsReleased, IsSound, unreleased}
+use Rattle.qs_core.specs.Machine.{Machine, made, played}
 use Rattle.qs_core.specs.Runs.{ClaimsAfter, IsFinished, IsReached, ReturnsAfter, ReturnsWork, WasReturned, after_events}
 
 -- the opening state is sound
@@ -49,7 +50,17 @@ UnreleasedAreCounted = (shape : Shape) (core : Core) (after : ℕ) → IsShape s
 
 -- a seat that joins with an empty view keeps a state sound
 abbrev pub EmptyViewKeepsSound : Type 0
-EmptyViewKeepsSound = (shape : Shape) (core : Core) → IsSound shape core → IsSound shape (record core { views = core.views ++ empty_view ∷ [] })
+EmptyViewKeepsSound = (shape : Shape) (core : Core) → IsSound shape core → IsSound shape (with_seat core)
+
+-- a machine that is made is reached by no events
+abbrev pub MadeIsReached : Type 0
+MadeIsReached = (shape : Shape) (seats : ℕ) → IsReached shape seats [] (made shape seats).core
+
+-- where a machine is reached by events, the one that an allowed event makes of it is reached by these and that event
+abbrev pub PlayedIsReached : Type 0
+PlayedIsReached =
+    (m : Machine) (seats : ℕ) (events : List Event) (event : Event) → IsReached m.shape seats events m.core → IsAllowed m.shape m.core event
+    → IsReached (played m event).shape seats (events ++ event ∷ []) (played m event).core
 
 -- over every list of events each state is sound, and so exclusive
 abbrev pub RunsAreSound : Type 0

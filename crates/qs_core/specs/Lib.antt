@@ -6,5 +6,4 @@ pub mod Sound
 pub mod Steps
 pub mod Blocks
 pub mod Machine
-pub mod Held
-pub mod Family
+pub mod inner

@@ -1,12 +1,12 @@
 -- The machine that plays events: its state, with the last note of each seat.
-use Rattle.std.specs.Prelude.{◌≡◌, ℕ, suc, ◌-◌, ◌^◌, min, List, length, slice_get, slice_set, replicate, Option, Some, None}
+use Rattle.std.specs.Prelude.{◌≡◌, ℕ, suc, ◌-◌, ◌^◌, min, List, length, slice_get, slice_set, replicate, Option, Some, None, unwrap_or}
 use Rattle.qs_core.specs.declared.event.Event.{Event}
 use Rattle.qs_core.specs.declared.event.Note.{Note}
 use Rattle.qs_core.specs.declared.event.Step.{Step}
 use Rattle.qs_core.specs.declared.event.Step.TheVariants.{Lock, Raise, Lower, Unlock, Fetch, Return, Claim, Release}
 use Rattle.qs_core.specs.declared.event.StepKind.{StepKind}
 use Rattle.qs_core.specs.declared.event.StepKind.TheVariants as Kind
-use Rattle.qs_core.specs.Shape.{Shape, IsShape, or_else}
+use Rattle.qs_core.specs.Shape.{Shape, IsShape}
 use Rattle.qs_core.specs.Core.{Core, View, opening, view_at}
 use Rattle.qs_core.specs.Steps.{effect, object_of, seen_by}
 use Rattle.qs_core.specs.Sound.{IsSound}
@@ -16,10 +16,6 @@ pub record Machine : Type 0 where
   pub shape : Shape
   pub core : Core
   pub notes : List (Option Note)
-
--- the machine that these lists make
-abbrev pub machine_of : Shape → List ℕ → List View → List (Option Note) → Machine
-machine_of shape words views notes = record { shape = shape; core = record { words = words; views = views }; notes = notes }
 
 abbrev pub kind_of : Step → StepKind
 kind_of (Lock cell) = Kind.Lock
@@ -48,7 +44,7 @@ note_after shape view last step seen = record {
 -- the note that an event leaves
 abbrev pub note_of : Machine → Event → Note
 note_of m event =
-    note_after m.shape (view_at m.core.views event.seat) (or_else None (slice_get m.notes event.seat)) event.step
+    note_after m.shape (view_at m.core.views event.seat) (unwrap_or (slice_get m.notes event.seat) None) event.step
     (seen_by m.shape m.core event.seat event.step)
 
 -- the machine after an event

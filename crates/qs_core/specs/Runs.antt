@@ -3,7 +3,7 @@ use Rattle.std.specs.Prelude.{◌≡◌, ℕ, ◌<◌, List, [], ◌∷◌, ◌+
 use Rattle.qs_core.specs.declared.event.Event.{Event}
 use Rattle.qs_core.specs.declared.event.Step.TheVariants.{Claim, Return}
 use Rattle.qs_core.specs.Shape.{Shape}
-use Rattle.qs_core.specs.Core.{Core, View, Running, opening, task_word, view_at}
+use Rattle.qs_core.specs.Core.{Core, View, Running, opening, task_place, view_at}
 use Rattle.qs_core.specs.Steps.{IsAllowed, effect}
 use Rattle.qs_core.specs.Sound.{IsClaimed, IsView, Runs}
 
@@ -20,7 +20,7 @@ after_events shape core (event ∷ events) = after_events shape (effect shape co
 -- the event claims the task: its word was 0
 pub record Claims (shape : Shape) (core : Core) (event : Event) (task : ℕ) : Type 0 where
   pub step : event.step ≡ Claim task
-  pub ready : slice_index core.words (task_word shape task) ≡ 0
+  pub ready : slice_index core.words (task_place shape task) ≡ 0
 
 -- the event returns the leaf for the task: its seat runs the task with the leaf left
 pub record ReturnsWork (core : Core) (event : Event) (task leaf : ℕ) : Type 0 where

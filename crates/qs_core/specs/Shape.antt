@@ -1,5 +1,5 @@
 -- What is scheduled, as plain data: cells in a hierarchy, the leaves below them, and tasks on one cell or two with an order between them.
-use Rattle.std.specs.Prelude.{◌≡◌, ℕ, zero, suc, ◌-◌, ◌^◌, ◌<◌, ◌≤◌, ◌⊎◌, ◌==◌, List, [], ◌∷◌, ◌++◌, length, slice_get, Option, Some, None, Contains, sum_by, count_by}
+use Rattle.std.specs.Prelude.{◌≡◌, ℕ, zero, suc, ◌-◌, ◌^◌, ◌<◌, ◌≤◌, ◌⊎◌, ◌==◌, List, [], ◌∷◌, ◌++◌, length, slice_get, Option, Some, None, Contains, sum_by, count_by, unwrap_or}
 use Rattle.std.specs.List.{range_with_len}
 
 -- a task: its one cell or two, the tasks that wait for it, and its weight
@@ -16,25 +16,17 @@ pub record Shape : Type 0 where
   pub leaves : ℕ
   pub tasks : List TaskShape
 
--- the shape that these lists make
-abbrev pub shape_of : List (Option ℕ) → List (ℕ × ℕ) → ℕ → List TaskShape → Shape
-shape_of parents ranges leaves tasks = record { parents = parents; ranges = ranges; leaves = leaves; tasks = tasks }
-
 abbrev pub no_task : TaskShape
 no_task = record { first = 0; second = None; successors = []; weight = 0 }
 
-abbrev pub or_else : {A : Type 0} → A → Option A → A
-or_else d None = d
-or_else d (Some x) = x
-
 abbrev pub parent_of : Shape → ℕ → Option ℕ
-parent_of shape cell = or_else None (slice_get shape.parents cell)
+parent_of shape cell = unwrap_or (slice_get shape.parents cell) None
 
 abbrev pub range_of : Shape → ℕ → ℕ × ℕ
-range_of shape cell = or_else (0, 0) (slice_get shape.ranges cell)
+range_of shape cell = unwrap_or (slice_get shape.ranges cell) (0, 0)
 
 abbrev pub task_at : Shape → ℕ → TaskShape
-task_at shape task = or_else no_task (slice_get shape.tasks task)
+task_at shape task = unwrap_or (slice_get shape.tasks task) no_task
 
 -- the cells above: as many as there can be, from this one up
 abbrev pub cells_up : Shape → ℕ → Option ℕ → List ℕ
@@ -59,11 +51,6 @@ pub record AreApart (shape : Shape) (a b : ℕ) : Type 0 where
 pub record IsBelow (shape : Shape) (leaf cell : ℕ) : Type 0 where
   pub from : (range_of shape cell).0 ≤ leaf
   pub to : leaf < (range_of shape cell).1
-
--- there is a cell and the leaf is below it
-abbrev pub IsBelowSome : Shape → ℕ → Option ℕ → Type 0
-IsBelowSome shape leaf None = ⊥
-IsBelowSome shape leaf (Some cell) = IsBelow shape leaf cell
 
 -- the leaves below a cell, in order, and those that a task touches: below its first cell, then below its second
 abbrev pub leaves_below : Shape → ℕ → List ℕ

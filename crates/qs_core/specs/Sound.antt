@@ -2,7 +2,7 @@
 use Rattle.std.specs.Prelude.{◌≡◌, ◌≢◌, ℕ, suc, ◌+◌, ◌*◌, ◌<◌, ◌≤◌, ◌==◌, true, false, List, [], length, take, slice_get, slice_index, sum_by, count_by, Contains, Option, Some, None, if◌then◌else◌}
 use Rattle.std.specs.List.{range_with_len}
 use Rattle.qs_core.specs.Shape.{Shape, IsEdge, Touches, CellContains, ancestors, task_at}
-use Rattle.qs_core.specs.Core.{Chain, Core, IsComplete, Running, View, cell_word, claimed_word, leaf_word, task_word, word_count}
+use Rattle.qs_core.specs.Core.{Chain, Core, IsComplete, Running, View, cell_place, claimed_word, leaf_place, task_place, word_count}
 use Rattle.qs_core.specs.Steps.{OwnsAbove, OwnsJust, ancestor_at}
 
 -- how often a cell is locked, and raised, over all chains of all views
@@ -34,7 +34,7 @@ pub record IsView (core : Core) (seat : ℕ) (view : View) : Type 0 where
 
 -- the task is claimed
 abbrev pub IsClaimed : Shape → Core → ℕ → Type 0
-IsClaimed shape core task = slice_index core.words (task_word shape task) ≡ claimed_word
+IsClaimed shape core task = slice_index core.words (task_place shape task) ≡ claimed_word
 
 -- an edge is released: its first task is claimed, and no view runs that task with this successor left
 pub record IsReleased (shape : Shape) (core : Core) (before after : ℕ) : Type 0 where
@@ -52,26 +52,26 @@ abbrev pub left_in : Option Running → ℕ → ℕ
 left_in None task = 0
 left_in (Some running) task = count_by (λ s. s == task) running.successors
 
+-- the edges from a task into another, as long as the first isn't claimed
+abbrev pub edges_from : Shape → Core → ℕ → ℕ → ℕ
+edges_from shape core after before = if slice_index core.words (task_place shape before) == claimed_word then 0 else count_by (λ s. s == after) (task_at shape before).successors
+
 -- how many edges into a task come from tasks that aren't claimed
 abbrev pub unclaimed_edges : Shape → Core → ℕ → ℕ
-unclaimed_edges shape core task =
-    sum_by
-    (λ before. if slice_index core.words (task_word shape before) == claimed_word then 0 else count_by (λ s. s == task) (task_at shape before).successors)
-    (range_with_len 0 (length shape.tasks))
+unclaimed_edges shape core task = sum_by (edges_from shape core task) (range_with_len 0 (length shape.tasks))
 
 -- how many edges into a task aren't released: those from tasks that aren't claimed, and those that a running task has left
 abbrev pub unreleased : Shape → Core → ℕ → ℕ
 unreleased shape core task = unclaimed_edges shape core task + sum_by (λ (v : View). left_in v.running task) core.views
 
--- the chains of a view
-pub record AreChains (shape : Shape) (core : Core) (view : View) : Type 0 where
-  pub few : length view.chains ≤ 2
-  pub cells : (chain : Chain) → Contains view.chains chain → (chain.cell < length shape.parents) × (chain.raises ≤ length (ancestors shape chain.cell))
+-- the chains of one of these views
+pub record AreChains (shape : Shape) (views : List View) (chains : List Chain) : Type 0 where
+  pub few : length chains ≤ 2
+  pub cells : (chain : Chain) → Contains chains chain → (chain.cell < length shape.parents) × (chain.raises ≤ length (ancestors shape chain.cell))
   -- the older one is complete, so that a marked raise is the newest chain's
-  pub older : (chain : Chain) → slice_get view.chains 1 ≡ Some chain → IsComplete shape chain
+  pub older : (chain : Chain) → slice_get chains 1 ≡ Some chain → IsComplete shape chain
   -- an ancestor with a raise that isn't marked isn't locked
-  pub unmarked : (chain : Chain) (k : ℕ) → Contains view.chains chain → k < chain.raises → (IsMarked chain k → ⊥)
-      → locks_of (ancestor_at shape chain k) core.views ≡ 0
+  pub unmarked : (chain : Chain) → Contains chains chain → (k : ℕ) → k < chain.raises → (IsMarked chain k → ⊥) → locks_of (ancestor_at shape chain k) views ≡ 0
 
 -- a leaf that the view has out: it owns a cell above it, and where it runs a task the leaf is left to return
 pub record IsOut (shape : Shape) (view : View) (leaf : ℕ) : Type 0 where
@@ -88,30 +88,45 @@ pub record IsRunning (shape : Shape) (core : Core) (view : View) (running : Runn
   pub some_left : (running.leaves ≡ []) → (running.successors ≡ []) → ⊥
   pub owns : running.leaves ≢ [] → OwnsJust shape view running.task × (running.successors ≡ (task_at shape running.task).successors)
 
--- what every state keeps
-pub record IsSound (shape : Shape) (core : Core) : Type 0 where
-  pub words : length core.words ≡ word_count shape
-  pub seat_word : slice_index core.words 0 ≡ 0
+-- what every state keeps of its cells
+pub record AreCellsSound (shape : Shape) (core : Core) : Type 0 where
   -- the word of a cell is its lock bit and twice the number of its raises; at most one chain locks it
   pub cell_words : (cell : ℕ) → cell < length shape.parents
-      → slice_index core.words (cell_word shape cell) ≡ locks_of cell core.views + 2 * raises_of shape cell core.views
+      → slice_index core.words (cell_place shape cell) ≡ locks_of cell core.views + 2 * raises_of shape cell core.views
   pub one_lock : (cell : ℕ) → locks_of cell core.views ≤ 1
-  pub chains : (seat : ℕ) (view : View) → IsView core seat view → AreChains shape core view
+  pub chains : (seat : ℕ) (view : View) → IsView core seat view → AreChains shape core.views view.chains
+
+-- what every state keeps of its leaves
+pub record AreLeavesSound (shape : Shape) (core : Core) : Type 0 where
   -- the word of a leaf is the number of views that have it out, at most one
-  pub leaf_words : (leaf : ℕ) → leaf < shape.leaves → slice_index core.words (leaf_word shape leaf) ≡ outs_of leaf core.views
+  pub leaf_words : (leaf : ℕ) → leaf < shape.leaves → slice_index core.words (leaf_place shape leaf) ≡ outs_of leaf core.views
   pub one_out : (leaf : ℕ) → outs_of leaf core.views ≤ 1
   pub outs : (seat : ℕ) (view : View) (leaf : ℕ) → IsView core seat view → Contains view.out leaf → IsOut shape view leaf
-  -- running tasks
+
+-- the one half: the words are as many as there are places, that of the seats is 0, and the cells and leaves keep their laws
+pub record AreLocksSound (shape : Shape) (core : Core) : Type 0 where
+  pub words : length core.words ≡ word_count shape
+  pub seat_word : slice_index core.words 0 ≡ 0
+  pub cells : AreCellsSound shape core
+  pub leaves : AreLeavesSound shape core
+
+-- the other half: the running tasks and the words of tasks
+pub record AreTasksSound (shape : Shape) (core : Core) : Type 0 where
   pub runs : (seat : ℕ) (view : View) (running : Running) → IsView core seat view → view.running ≡ Some running → IsRunning shape core view running
   pub one_runs : (seat seat' task : ℕ) (view view' : View) (running running' : Running)
       → IsView core seat view → IsView core seat' view' → Runs view task running → Runs view' task running' → seat ≡ seat'
   -- the word of a task that isn't claimed is the number of edges into it that aren't released; none is left of a claimed one
-  pub task_words : (task : ℕ) → task < length shape.tasks → slice_index core.words (task_word shape task) ≢ claimed_word
-      → slice_index core.words (task_word shape task) ≡ unreleased shape core task
+  pub task_words : (task : ℕ) → task < length shape.tasks → slice_index core.words (task_place shape task) ≢ claimed_word
+      → slice_index core.words (task_place shape task) ≡ unreleased shape core task
   pub claimed_ready : (task : ℕ) → task < length shape.tasks → IsClaimed shape core task → unreleased shape core task ≡ 0
   -- every task before a claimed one is claimed, and done on every leaf that it touches
   pub in_order : (before after leaf : ℕ) → before < length shape.tasks → after < length shape.tasks → IsEdge shape before after → IsClaimed shape core after
       → IsClaimed shape core before × (Touches shape before leaf → IsDone shape core before leaf)
+
+-- what every state keeps
+pub record IsSound (shape : Shape) (core : Core) : Type 0 where
+  pub locks : AreLocksSound shape core
+  pub tasks : AreTasksSound shape core
 
 -- no two chains own cells of which one contains the other: the chains are told apart by their seat and their place in it
 pub record OwnsAt (shape : Shape) (core : Core) (seat k cell : ℕ) : Type 0 where

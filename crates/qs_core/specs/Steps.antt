@@ -1,10 +1,10 @@
 -- The eight kinds of step: where each is allowed, the word that it changes, and what the seat has after it.
-use Rattle.std.specs.Prelude.{◌≡◌, ◌≢◌, ℕ, suc, ◌+◌, ◌-◌, ◌^◌, ◌%◌, ◌<◌, ◌⊎◌, ◌↔◌, ◌==◌, true, false, not, List, [], ◌∷◌, length, filter, slice_get, slice_index, slice_set, Contains, Option, Some, None, if◌then◌else◌, ⊤}
+use Rattle.std.specs.Prelude.{◌≡◌, ◌≢◌, ℕ, suc, ◌+◌, ◌-◌, ◌^◌, ◌%◌, ◌<◌, ◌⊎◌, ◌↔◌, ◌==◌, true, false, not, List, [], ◌∷◌, length, filter, slice_get, slice_index, slice_set, Contains, Option, Some, None, if◌then◌else◌, ⊤, unwrap_or}
 use Rattle.qs_core.specs.declared.event.Event.{Event}
 use Rattle.qs_core.specs.declared.event.Step.{Step}
 use Rattle.qs_core.specs.declared.event.Step.TheVariants.{Lock, Raise, Lower, Unlock, Fetch, Return, Claim, Release}
-use Rattle.qs_core.specs.Shape.{Shape, AreApart, IsBelow, ancestors, leaves_of, or_else, task_at}
-use Rattle.qs_core.specs.Core.{Chain, Core, IsComplete, Owns, Running, View, cell_word, claimed_word, leaf_word, task_word, view_at}
+use Rattle.qs_core.specs.Shape.{Shape, AreApart, IsBelow, ancestors, leaves_of, task_at}
+use Rattle.qs_core.specs.Core.{Chain, Core, IsComplete, Owns, Running, View, cell_place, claimed_word, leaf_place, task_place, view_at}
 
 -- the chain of a cell that was just locked; where there is no chain, all is 0
 abbrev pub new_chain : ℕ → Chain
@@ -22,7 +22,7 @@ lowered_chain chain = record chain { raises = chain.raises - 1; giving = true }
 
 -- the newest chain
 abbrev pub newest : View → Chain
-newest view = or_else no_chain (slice_get view.chains 0)
+newest view = unwrap_or (slice_get view.chains 0) no_chain
 
 -- a task runs with no leaf left to return, or none runs
 abbrev pub HasReturned : Option Running → Type 0
@@ -136,12 +136,12 @@ object_of shape view (Claim task) = task
 object_of shape view Release = next_successor view.running
 
 -- the place of its word in the list
-abbrev pub word_of : Shape → Step → ℕ → ℕ
-word_of shape (Fetch leaf) object = leaf_word shape object
-word_of shape (Return leaf) object = leaf_word shape object
-word_of shape (Claim task) object = task_word shape object
-word_of shape Release object = task_word shape object
-word_of shape _ object = cell_word shape object
+abbrev pub place_of : Shape → Step → ℕ → ℕ
+place_of shape (Fetch leaf) object = leaf_place shape object
+place_of shape (Return leaf) object = leaf_place shape object
+place_of shape (Claim task) object = task_place shape object
+place_of shape Release object = task_place shape object
+place_of shape _ object = cell_place shape object
 
 -- what the word becomes where this was seen: words have 64 bits
 abbrev pub exchanged : Step → ℕ → ℕ
@@ -178,6 +178,10 @@ after_release (Some running) = unless_over running.task running.leaves (rest run
 abbrev pub with_newest : View → Chain → View
 with_newest view chain = record view { chains = chain ∷ rest view.chains }
 
+-- a task that was just claimed: all is left
+abbrev pub started : Shape → ℕ → Running
+started shape task = record { task = task; leaves = leaves_of shape task; successors = (task_at shape task).successors }
+
 -- what the seat has after its step, where this was seen
 abbrev pub view_after : Shape → View → Step → ℕ → View
 view_after shape view (Lock cell) seen =
@@ -191,21 +195,21 @@ view_after shape view (Fetch leaf) seen = record view { out = leaf ∷ view.out 
 view_after shape view (Return leaf) seen = record view { out = without leaf view.out; running = after_return view.running leaf }
 view_after shape view (Claim task) seen =
     if seen == 0
-    then record view { running = Some (record { task = task; leaves = leaves_of shape task; successors = (task_at shape task).successors }) }
+    then record view { running = Some (started shape task) }
     else view
 view_after shape view Release seen = record view { running = after_release view.running }
 
 -- the word that a step of a seat sees
 abbrev pub seen_by : Shape → Core → ℕ → Step → ℕ
-seen_by shape core seat step = slice_index core.words (word_of shape step (object_of shape (view_at core.views seat) step))
+seen_by shape core seat step = slice_index core.words (place_of shape step (object_of shape (view_at core.views seat) step))
 
 -- the state after the step of a seat
 abbrev pub stepped : Shape → Core → ℕ → Step → Core
 stepped shape core seat step =
     let view = view_at core.views seat in
-    let word = word_of shape step (object_of shape view step) in
-    let seen = slice_index core.words word in
-    record { words = slice_set core.words word (exchanged step seen); views = slice_set core.views seat (view_after shape view step seen) }
+    let place = place_of shape step (object_of shape view step) in
+    let seen = slice_index core.words place in
+    record { words = slice_set core.words place (exchanged step seen); views = slice_set core.views seat (view_after shape view step seen) }
 
 -- an event is allowed where its seat is one and may make the step
 pub record IsAllowed (shape : Shape) (core : Core) (event : Event) : Type 0 where

@@ -3,6 +3,9 @@ ghost use Rattle.std.specs.Prelude.{◌≡◌};
 ghost use Rattle.qs_core.specs.Machine.{kind_of};
 ghost use Rattle.qs_core.specs.Steps.{exchanged};
 
+/// The word of a claimed task: no count of edges reaches it.
+pub const CLAIMED: u64 = 1 << 63;
+
 /// A step: one read and write of one word.
 #[derive(Clone, Copy, Debug, PartialEq, Eq)]
 pub enum Step {
@@ -47,7 +50,7 @@ impl Step {
     {
         match self {
             Step::Lock { .. } if seen == 0 => 1,
-            Step::Claim { .. } if seen == 0 => 1 << 63,
+            Step::Claim { .. } if seen == 0 => CLAIMED,
             Step::Lock { .. } | Step::Claim { .. } => seen,
             Step::Raise => seen.wrapping_add(2),
             Step::Lower => seen.wrapping_sub(2),

@@ -1,5 +1,5 @@
 //! The laws of the machine.
-ghost use Rattle.qs_core.specs.Laws.{AllAreDone, ClaimedInOrder, ClaimedOnce, DoneWasReturned, EmptyViewKeepsSound, FinishedWasReturned, OpeningIsSound, ReleasedMeansNone, ReturnedOnce, RunsAreSound, SoundIsExclusive, SoundIsInOrder, StepsChangeDone, StepsKeepSound, UnreleasedAreCounted};
+ghost use Rattle.qs_core.specs.Laws.{AllAreDone, ClaimedInOrder, ClaimedOnce, DoneWasReturned, EmptyViewKeepsSound, FinishedWasReturned, MadeIsReached, OpeningIsSound, PlayedIsReached, ReleasedMeansNone, ReturnedOnce, RunsAreSound, SoundIsExclusive, SoundIsInOrder, StepsChangeDone, StepsKeepSound, UnreleasedAreCounted};
 
 /// Does nothing: its contract is the law of each step. The opening state is sound, an allowed step from a
 /// sound state gives a sound one, and a seat that joins with nothing keeps a state sound. In a sound state no
@@ -18,10 +18,13 @@ pub fn steps_are_sound()
     ensures counted { UnreleasedAreCounted }
 {}
 
-/// Does nothing: its contract is the law of every list of events from the opening state. Where a list ends
-/// with every task claimed and none running, each leaf was returned for just the tasks that touch it, for
-/// each of them once.
+/// Does nothing: its contract is the law of every list of events from the opening state. A state that was made
+/// is reached by no events, and one that plays an allowed event by one event more, so the law holds of every
+/// state. Where a list ends with every task claimed and none running, each leaf was returned for just the tasks
+/// that touch it, for each of them once.
 pub fn runs_are_sound()
+    ensures made { MadeIsReached }
+    ensures played { PlayedIsReached }
     ensures sound { RunsAreSound }
     ensures claimed_once { ClaimedOnce }
     ensures claimed_in_order { ClaimedInOrder }

@@ -1,9 +1,9 @@
 //! What is scheduled, as the machine keeps it.
-ghost use Rattle.std.specs.Prelude.{◌≡◌, ◌<◌, ◌↔◌, ◌++◌, ℕ, length, IfOk, IsTrue, OnOk, Some, slice_index};
-ghost use Rattle.qs_core.specs.Shape.{AreApart, CellContains, IsBelow, IsBelowSome, IsShape, Touches, ancestors, leaves_of, leaves_of_other, parent_of, range_of, task_at};
-ghost use Rattle.qs_core.specs.Core.{cell_word, leaf_word, task_word};
-ghost use Rattle.qs_core.specs.Steps.{word_of};
-ghost use Rattle.qs_core.specs.Held.{IsEither};
+ghost use Rattle.std.specs.Prelude.{◌≡◌, ◌<◌, ◌↔◌, ◌++◌, length, IfOk, IsTrue, OnOk, Some, slice_index};
+ghost use Rattle.qs_core.specs.Shape.{AreApart, CellContains, IsBelow, IsShape, Touches, ancestors, leaves_of, leaves_of_other, parent_of, range_of, task_at};
+ghost use Rattle.qs_core.specs.Core.{cell_place, leaf_place, task_place};
+ghost use Rattle.qs_core.specs.Steps.{place_of};
+ghost use Rattle.qs_core.specs.inner.Held.{IsBelowSome, IsEither};
 
 use crate::event::Step;
 use crate::work::Work;
@@ -71,7 +71,8 @@ pub struct Layout {
 }
 
 impl Model for Layout {
-    ghost use Rattle.qs_core.specs.Shape.{Shape, IsShape, shape_of};
+    ghost use Rattle.qs_core.specs.Shape.{Shape, IsShape};
+    ghost use Rattle.qs_core.specs.inner.Stored.{shape_of};
 
     ghost Value = { Shape };
 
@@ -145,28 +146,28 @@ impl Layout {
 
     /// The place of the word of a cell: that of the seats, which stays 0, comes before.
     pub fn cell_place(&self, cell: u32) -> usize
-        ensures { result ≡ cell_word self.now cell }
+        ensures { result ≡ cell_place self.now cell }
     {
         1 + cell as usize
     }
 
     /// The place of the word of a leaf.
     pub fn leaf_place(&self, leaf: u32) -> usize
-        ensures { result ≡ leaf_word self.now leaf }
+        ensures { result ≡ leaf_place self.now leaf }
     {
         1 + self.cells() as usize + leaf as usize
     }
 
     /// The place of the word of a task.
     pub fn task_place(&self, task: u32) -> usize
-        ensures { result ≡ task_word self.now task }
+        ensures { result ≡ task_place self.now task }
     {
         1 + self.cells() as usize + self.leaves as usize + task as usize
     }
 
     /// The place of the word of a step on a cell, leaf or task.
-    pub fn place(&self, step: Step, object: u32) -> usize
-        ensures { result ≡ word_of self.now step object }
+    pub(crate) fn place(&self, step: Step, object: u32) -> usize
+        ensures { result ≡ place_of self.now step object }
     {
         match step {
             Step::Lock { .. } | Step::Raise | Step::Lower | Step::Unlock => self.cell_place(object),
@@ -184,28 +185,28 @@ impl Layout {
     }
 
     /// How many leaves there are.
-    pub fn leaves(&self) -> u32
+    pub(crate) fn leaves(&self) -> u32
         ensures { result ≡ self.now.leaves }
     {
         self.leaves
     }
 
     /// How many tasks there are.
-    pub fn tasks(&self) -> u32
+    pub(crate) fn tasks(&self) -> u32
         ensures { result ≡ length self.now.tasks }
     {
         self.tasks.len() as u32
     }
 
     /// A task.
-    pub fn task(&self, task: u32) -> &TaskPlan
+    pub(crate) fn task(&self, task: u32) -> &TaskPlan
         requires { task < length self.now.tasks }
         ensures { result.now ≡ task_at self.now task }
     {
         &self.tasks[task as usize]
     }
 
-    /// The cell above.
+    /// The cell above: none where there is none, or where the number is of no cell.
     pub fn parent(&self, cell: u32) -> Option<u32>
         ensures value { result ≡ parent_of self.now cell }
         ensures laws { IsShape self.now }
@@ -246,7 +247,7 @@ impl Layout {
     }
 
     /// Whether a cell is another or contains it.
-    pub fn contains(&self, outer: u32, inner: u32) -> bool
+    pub(crate) fn contains(&self, outer: u32, inner: u32) -> bool
         ensures { IsTrue result ↔ CellContains self.now outer inner }
     {
         let mut at = Some(inner);
@@ -260,7 +261,7 @@ impl Layout {
     }
 
     /// The leaves below a cell: from the first number up to the second, which is excluded.
-    pub fn range(&self, cell: u32) -> (u32, u32)
+    pub(crate) fn range(&self, cell: u32) -> (u32, u32)
         ensures { result ≡ range_of self.now cell }
     {
         match self.ranges.get(cell as usize) {
@@ -270,7 +271,7 @@ impl Layout {
     }
 
     /// Whether a leaf is below a cell.
-    pub fn is_below(&self, leaf: u32, cell: u32) -> bool
+    pub(crate) fn is_below(&self, leaf: u32, cell: u32) -> bool
         ensures { IsTrue result ↔ IsBelow self.now leaf cell }
     {
         let (from, to) = self.range(cell);
@@ -278,14 +279,14 @@ impl Layout {
     }
 
     /// Whether neither of two cells contains the other.
-    pub fn are_apart(&self, a: u32, b: u32) -> bool
+    pub(crate) fn are_apart(&self, a: u32, b: u32) -> bool
         ensures { IsTrue result ↔ AreApart self.now a b }
     {
         !self.contains(a, b) && !self.contains(b, a)
     }
 
     /// Whether there is a cell and the leaf is below it.
-    pub fn is_below_some(&self, leaf: u32, cell: Option<u32>) -> bool
+    pub(crate) fn is_below_some(&self, leaf: u32, cell: Option<u32>) -> bool
         ensures { IsTrue result ↔ IsBelowSome self.now leaf cell }
     {
         match cell {
@@ -295,7 +296,7 @@ impl Layout {
     }
 
     /// Whether a task touches a leaf.
-    pub fn touches(&self, task: u32, leaf: u32) -> bool
+    pub(crate) fn touches(&self, task: u32, leaf: u32) -> bool
         requires { task < length self.now.tasks }
         ensures { IsTrue result ↔ Touches self.now task leaf }
     {
@@ -318,7 +319,7 @@ impl Layout {
     }
 
     /// The leaves that a task touches: below its first cell, then below its second.
-    pub fn leaves_of(&self, alloc: Global, task: u32) -> Result<Vec<u32>, AllocError>
+    pub(crate) fn leaves_of(&self, alloc: Global, task: u32) -> Result<Vec<u32>, AllocError>
         requires { task < length self.now.tasks }
         ensures { IfOk result (λ v. v.items ≡ leaves_of self.now task) }
     {

@@ -10,9 +10,12 @@ mod start;
 mod state;
 mod work;
 
-pub use event::{Event, Note, Step, StepKind};
+pub use event::{CLAIMED, Event, Note, Step, StepKind};
 pub use laws::{runs_are_sound, steps_are_sound};
+pub use layout::Layout;
 pub use player::play;
+pub use seat::Seat;
+pub use start::opening_words;
 pub use state::State;
 pub use work::Work;
 

@@ -1,6 +1,6 @@
 //! Plays one event.
 ghost use Rattle.std.specs.Prelude.{◌≡◌, IfOk, MatchBool, OnErr};
-ghost use Rattle.qs_core.specs.Machine.{played};
+ghost use Rattle.qs_core.specs.Machine.{IsMachine, played};
 ghost use Rattle.qs_core.specs.Steps.{IsAllowed};
 
 use crate::event::Event;
@@ -8,8 +8,9 @@ use crate::state::State;
 use crate::work::Work;
 use std::alloc::{AllocError, Global};
 
-/// Plays an event where it is allowed, and answers whether it was: the only error is of memory. The work
-/// is there for the condition that the state is one of it: the state asks its own copy.
+/// Plays an event where it is allowed, and answers whether it was. The only error is of memory, which only
+/// an allowed event takes. The work is there for the condition that the state is one of it: the state
+/// asks its own copy.
 pub fn play<W: Work>(
     alloc: Global,
     work: &W,
@@ -19,6 +20,8 @@ pub fn play<W: Work>(
     requires { state.old.shape ≡ W.shape (W.plan work.now) }
     ensures played { IfOk result (λ done. MatchBool done (IsAllowed state.old.shape state.old.core event × (state.new ≡ played state.old event)) ((IsAllowed state.old.shape state.old.core event → ⊥) × (state.new ≡ state.old))) }
     ensures unchanged { OnErr result (state.new ≡ state.old) }
+    ensures allowed { OnErr result (IsAllowed state.old.shape state.old.core event) }
+    ensures machine { IsMachine state.new }
 {
     let _ = work;
     if !state.may(event) {

@@ -2,11 +2,11 @@
 ghost use Rattle.std.specs.Prelude.{◌≡◌, ◌≢◌, ◌<◌, ◌↔◌, ◌⊎◌, ℕ, [], length, Contains, IsTrue, None, Some};
 ghost use Rattle.qs_core.specs.Core.{Owns, empty_view};
 ghost use Rattle.qs_core.specs.Steps.{HasReturned, HasRoom, IsFree, MayFetch, OwnsAbove, OwnsJust, newest, next_successor};
-ghost use Rattle.qs_core.specs.Held.{RunsOn};
+ghost use Rattle.qs_core.specs.inner.Held.{RunsOn};
 
 mod chain;
 mod chains;
-mod lists;
+mod numbers;
 mod owned;
 mod running;
 mod steps;
@@ -19,7 +19,7 @@ use running::RunningTask;
 use std::alloc::Global;
 use std::marker::Model;
 
-/// What a seat holds.
+/// What a seat holds. Outside, a name for what is seen of a seat: only a [`State`](crate::State) makes one.
 #[derive(Drop)]
 pub struct Seat {
     chains: Chains,
@@ -32,14 +32,14 @@ impl Model for Seat {
 
     ghost Value = { View };
 
-    ghost use Rattle.qs_core.specs.Held.{chains_of};
+    ghost use Rattle.qs_core.specs.inner.Held.{chains_of};
 
     ghost view = { λ s. record { chains = chains_of s.chains; out = s.out.items; running = s.running } };
 }
 
 impl Seat {
     /// A seat that holds nothing.
-    pub fn new(alloc: Global) -> Seat
+    pub(crate) fn new(alloc: Global) -> Seat
         ensures { result ≡ empty_view }
     {
         Seat {
@@ -69,7 +69,7 @@ impl Seat {
     }
 
     /// Whether the seat owns a cell.
-    pub fn owns(&self, layout: &Layout, cell: u32) -> bool
+    pub(crate) fn owns(&self, layout: &Layout, cell: u32) -> bool
         ensures { IsTrue result ↔ Owns layout.now self.now cell }
     {
         self.owned(layout).contains(cell)
@@ -150,7 +150,7 @@ impl Seat {
     }
 
     /// Whether the seat runs a task that has a leaf left.
-    pub fn runs_on(&self, task: u32, leaf: u32) -> bool
+    pub(crate) fn runs_on(&self, task: u32, leaf: u32) -> bool
         ensures { IsTrue result ↔ RunsOn self.now.running task leaf }
     {
         match &self.running {

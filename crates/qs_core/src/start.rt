@@ -7,8 +7,8 @@ use crate::seat::Seat;
 use crate::work::Work;
 use std::alloc::{AllocError, Global};
 
-/// The words: those of the seats, the cells and the leaves are 0.
-pub fn words<W: Work>(alloc: Global, work: &W) -> Result<Vec<u64>, AllocError>
+/// The words at the opening: those of the seats, the cells and the leaves are 0.
+pub fn opening_words<W: Work>(alloc: Global, work: &W) -> Result<Vec<u64>, AllocError>
     ensures { IfOk result (λ v. v.items ≡ (opening (W.shape (W.plan work.now)) 0).words) }
 {
     let homes = 1 + work.cells() as usize + work.leaves() as usize;

@@ -1,23 +1,19 @@
 //! The state of the machine: a word for each cell, leaf and task, and what each seat holds.
-ghost use Rattle.std.specs.Prelude.{◌≡◌, ◌<◌, ◌≤◌, ◌↔◌, length, slice_get, slice_index, IfOk, IsTrue, None, OnErr, OnOk};
+ghost use Rattle.std.specs.Prelude.{◌≡◌, ◌<◌, ◌≤◌, ◌↔◌, length, slice_get, slice_index, IfOk, IsTrue, None, OnErr, OnOk, unwrap_or};
 ghost use Rattle.std.specs.List.{Any};
-ghost use Rattle.qs_core.specs.Shape.{or_else};
-ghost use Rattle.qs_core.specs.Core.{Owns, View, cell_word, leaf_word, task_word, view_at, word_count};
+ghost use Rattle.qs_core.specs.Core.{Owns, View, cell_place, leaf_place, task_place, view_at, word_count};
 ghost use Rattle.qs_core.specs.Sound.{IsDone};
-ghost use Rattle.qs_core.specs.Steps.{IsAllowed, object_of, word_of};
+ghost use Rattle.qs_core.specs.Steps.{IsAllowed};
 ghost use Rattle.qs_core.specs.Machine.{IsMachine, made, note_of, played};
-ghost use Rattle.qs_core.specs.Held.{RunsOn};
+ghost use Rattle.qs_core.specs.inner.Held.{RunsOn};
 
-use crate::event::{Event, Note};
+use crate::event::{CLAIMED, Event, Note};
 use crate::layout::Layout;
 use crate::seat::Seat;
 use crate::start;
 use crate::work::Work;
 use std::alloc::{AllocError, Global};
 use std::marker::Model;
-
-/// The word of a claimed task: no count of edges reaches it.
-const CLAIMED: u64 = 1 << 63;
 
 /// The state of the machine, with its own copy of the cells, leaves and tasks, and the last note of
 /// each seat. A cell's word is its lock bit and twice the number of its raises, a leaf's is 1 while it
@@ -31,7 +27,8 @@ pub struct State {
 }
 
 impl Model for State {
-    ghost use Rattle.qs_core.specs.Machine.{Machine, IsMachine, machine_of};
+    ghost use Rattle.qs_core.specs.Machine.{Machine, IsMachine};
+    ghost use Rattle.qs_core.specs.inner.Stored.{machine_of};
 
     ghost Value = { Machine };
 
@@ -44,10 +41,11 @@ impl State {
     /// The opening state for so many seats, which number from 0.
     pub fn new<W: Work>(alloc: Global, work: &W, seats: u32) -> Result<State, AllocError>
         requires { 1 ≤ seats }
-        ensures { IfOk result (λ state. state ≡ made (W.shape (W.plan work.now)) seats) }
+        ensures made { IfOk result (λ state. state ≡ made (W.shape (W.plan work.now)) seats) }
+        ensures machine { IfOk result (λ state. IsMachine state) }
     {
         let layout = Layout::of(alloc, work)?;
-        let words = start::words(alloc, work)?;
+        let words = start::opening_words(alloc, work)?;
         let empty = start::seats(alloc, seats)?;
         let notes = start::notes(alloc, seats)?;
         Ok(State {
@@ -77,7 +75,8 @@ impl State {
     /// The word of a cell.
     pub fn word(&self, cell: u32) -> u64
         requires { cell < length self.now.shape.parents }
-        ensures { result ≡ slice_index self.now.core.words (cell_word self.now.shape cell) }
+        ensures value { result ≡ slice_index self.now.core.words (cell_place self.now.shape cell) }
+        ensures machine { IsMachine self.now }
     {
         self.word_at(self.layout.cell_place(cell))
     }
@@ -85,7 +84,7 @@ impl State {
     /// The word of a task.
     pub fn wait(&self, task: u32) -> u64
         requires { task < length self.now.shape.tasks }
-        ensures { result ≡ slice_index self.now.core.words (task_word self.now.shape task) }
+        ensures { result ≡ slice_index self.now.core.words (task_place self.now.shape task) }
     {
         self.word_at(self.layout.task_place(task))
     }
@@ -93,7 +92,7 @@ impl State {
     /// Whether a leaf is out.
     pub fn is_out(&self, leaf: u32) -> bool
         requires { leaf < self.now.shape.leaves }
-        ensures { IsTrue result ↔ (slice_index self.now.core.words (leaf_word self.now.shape leaf) ≡ 1) }
+        ensures { IsTrue result ↔ (slice_index self.now.core.words (leaf_place self.now.shape leaf) ≡ 1) }
     {
         self.word_at(self.layout.leaf_place(leaf)) == 1
     }
@@ -131,7 +130,7 @@ impl State {
     /// The note that the last step of a seat left: none before its first.
     pub fn note(&self, seat: u32) -> Option<Note>
         requires { seat < length self.now.core.views }
-        ensures { result ≡ or_else None (slice_get self.now.notes seat) }
+        ensures { result ≡ unwrap_or (slice_get self.now.notes seat) None }
     {
         match self.notes.get(seat as usize) {
             Some(note) => *note,
@@ -141,7 +140,8 @@ impl State {
 
     /// Whether an event is allowed.
     pub(crate) fn may(&self, event: Event) -> bool
-        ensures { IsTrue result ↔ IsAllowed self.now.shape self.now.core event }
+        ensures value { IsTrue result ↔ IsAllowed self.now.shape self.now.core event }
+        ensures machine { IsMachine self.now }
     {
         (event.seat as usize) < self.seats.len()
             && self.seat(event.seat).may(&self.layout, event.step)
@@ -170,6 +170,7 @@ impl State {
         requires { IsAllowed self.old.shape self.old.core event }
         ensures made { OnOk result (self.new ≡ played self.old event) }
         ensures unchanged { OnErr result (self.new ≡ self.old) }
+        ensures machine { IsMachine self.new }
     {
         let note = self.note_of(event);
         let seat = event.seat as usize;

@@ -1,6 +1,6 @@
 //! Events on four cells: 1 is below 0, and 2 and 3 below 1, each with one leaf.
 ghost use Rattle.std.specs.Prelude.{◌≡◌, ◌<◌, ◌↔◌, ◌⊎◌, ℕ, false, true, length, Contains, ⊤};
-ghost use Rattle.qs_core.specs.Family.{done_by, family};
+ghost use Rattle.qs_core.specs.inner.Family.{done_by, family};
 
 use crate::{Event, Note, State, Step, StepKind, Work, play};
 use std::alloc::{AllocError, Global};

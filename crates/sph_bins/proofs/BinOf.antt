@@ -1,12 +1,12 @@
 -- The new bin of a particle: between the least and the greatest, due, and the greatest that may be taken.
 use Rattle.std.proofs.Common.{◌≡◌, ℕ, zero, suc, ◌+◌, ◌-◌, ◌*◌, ◌/◌, ◌%◌, ◌^◌, ◌<◌, ◌≤◌, Bool, true, false, leb, cond, ◌&&◌, inl, inr, sym, ◌∙◌, arith}
-use Rattle.std.proofs.lemmas.Bool.{cases_Bool, cases_eq, cases_lt, both_ways, eqb-true, eq-eqb}
+use Rattle.std.proofs.lemmas.Bool.{cases_Bool, cases_eq, both_ways, eqb-true, eq-eqb}
 use Rattle.std.proofs.lemmas.Nat.{pow_pos, div-add-mod', mod_below}
 use Rattle.std.proofs.Math.Nat.{mul-mod_left}
 use Rattle.std.proofs.lemmas.Bool.Decides.{nat_tests}
 use Rattle.sph_num.specs.declared.particle.Params.{Params}
 use Rattle.sph_num.specs.Kernel.{greatest_passing}
-use Rattle.sph_num.proofs.Roots.{greatest_passing-is, fails_above_greatest}
+use Rattle.sph_num.proofs.Roots.{greatest_passing-is}
 use Rattle.sph_bins.specs.Bins.{IsDue, is_due, IsTickAfter, may_take, bin_of}
 use Rattle.sph_bins.proofs.Room.{multiples_apart}
 
@@ -70,16 +70,6 @@ bin_of-high params t fmax mass h bins due = (IsGreatestPassing-bin_of params t f
 pub bin_of-due : (params : Params) (t fmax mass h : ℕ) → params.bin_min ≤ params.bin_max → IsDue t params.bin_min → IsDue t (bin_of params t fmax mass h)
 bin_of-due params t fmax mass h bins due =
     IsDue-from_may_take params t fmax mass h (bin_of params t fmax mass h) (IsGreatestPassing-bin_of params t fmax mass h bins due).passing
-
--- no greater one may be taken
-pub bin_of-greatest : (params : Params) (t fmax mass h other : ℕ) → may_take params t fmax mass h other ≡ true → other ≤ params.bin_max → other ≤ bin_of params t fmax mass h
-unfolding bin_of
-bin_of-greatest params t fmax mass h other taken high =
-    let passes = may_take params t fmax mass h in
-    elim (cases_lt (greatest_passing passes params.bin_max) other) [
-      | inl above ↦ absurd (both_ways (passes other) (fails_above_greatest passes params.bin_max other above high) taken)
-      | inr low ↦ low
-    ]
 
 -- such a bin is the new one
 pub bin_of-is : (params : Params) (t fmax mass h bin : ℕ) → bin ≤ params.bin_max → may_take params t fmax mass h bin ≡ true → ((k : ℕ) → bin < k → k ≤ params.bin_max → may_take params t fmax mass h k ≡ false) → bin_of params t fmax mass h ≡ bin

@@ -10,9 +10,9 @@ use Rattle.sph_deck.specs.declared.fault.DeckFault.TheVariants.{Missing, WrongKi
 use Rattle.sph_deck.specs.declared.key.Key.TheVariants.{Particle}
 use Rattle.sph_deck.specs.Document.{value_at, elements, elements_at, list_of_items}
 use Rattle.sph_deck.specs.Faults.{StandsInTable}
-use Rattle.sph_deck.specs.Judged.{place_at}
-use Rattle.sph_deck.specs.Meets.{Meets}
-use Rattle.sph_deck.specs.Rows.{judged_array, judged_items, IsArrayFault, IsCountFault}
+use Rattle.sph_deck.specs.inner.Judged.{place_at}
+use Rattle.sph_deck.specs.inner.Meets.{Meets}
+use Rattle.sph_deck.specs.inner.Rows.{judged_array, judged_items, IsArrayFault, IsCountFault}
 
 -- an array's elements are its values' data
 list_of_items-view : (values : List Value) → list_of_items (items_view values) ≡ map view values

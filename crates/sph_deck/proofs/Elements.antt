@@ -6,8 +6,8 @@ use Rattle.toml.specs.Data.{Data}
 use Rattle.toml.specs.View.{view}
 use Rattle.toml.specs.declared.value.Value.{Value}
 use Rattle.sph_deck.specs.declared.fault.DeckFault.{DeckFault}
-use Rattle.sph_deck.specs.Meets.{Meets}
-use Rattle.sph_deck.specs.Rows.{AreElementsRead, HasElementFault, IsElementFault, IsElementRead}
+use Rattle.sph_deck.specs.inner.Meets.{Meets}
+use Rattle.sph_deck.specs.inner.Rows.{AreElementsRead, HasElementFault, IsElementFault, IsElementRead}
 use Rattle.sph_deck.proofs.Walks.{meets_as, meets_both}
 
 -- an element of a list with one more at its end is one of the list, or that one

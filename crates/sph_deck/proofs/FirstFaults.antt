@@ -10,7 +10,7 @@ use Rattle.sph_deck.specs.declared.key.Key.{Key}
 use Rattle.sph_deck.specs.declared.refusal.DeckRefusal.{DeckRefusal}
 use Rattle.sph_deck.specs.declared.refusal.DeckRefusal.TheVariants.{Fault, Memory}
 use Rattle.sph_deck.specs.Document.{IsDocument, value_at, params_of, particles_of}
-use Rattle.sph_deck.specs.Faults.{Stands, IsAccepted, IsDeckOf, IsKeyOf, IsOutside, HasElements, longest_text}
+use Rattle.sph_deck.specs.Faults.{Stands, IsAccepted, IsKeyOf, IsOutside, HasElements, longest_text}
 use Rattle.sph_deck.specs.FirstFault.{AnswersDeck, IsFirstFault, IsNoLater, IsPlaceNoLater, kind_of, place_of}
 use Rattle.sph_deck.specs.Keys.{key_numbered, number_of}
 use Rattle.sph_deck.proofs.KeyNumbers.{key_numbered-number_of}
@@ -18,10 +18,6 @@ use Rattle.sph_deck.proofs.KeyNumbers.{key_numbered-number_of}
 -- bytes are one document at most
 pub IsDocument-unique : (bytes : List ℕ) (top other : Members) → IsDocument bytes top → IsDocument bytes other → top ≡ other
 IsDocument-unique bytes top other a b = let p = a.parsed in let q = b.parsed in cc
-
--- two decks of one text have the same parameters
-pub params-unique : (bytes : List ℕ) (a b : Deck) → IsDeckOf bytes a → IsDeckOf bytes b → a.params ≡ b.params
-params-unique bytes a b p q = p.params ∙ ap params_of (IsDocument-unique bytes p.top q.top p.document q.document) ∙ sym q.params
 
 -- a place names one key of its row's table at most
 IsKeyOf-unique : (top : Members) (place : Place) (a b : Key) (s t : Members) → IsKeyOf top place a s → IsKeyOf top place b t → (a ≡ b) × (s ≡ t)
@@ -63,22 +59,22 @@ Stands-unique bytes (TooMany m) (TooMany n) kind place s t =
     ap TooMany (HasElements-unique s.0 m n s.2.0 (subst (λ o. HasElements o n) top t.2.0))
 Stands-unique bytes (BadEvery every unit) (BadEvery every' unit') kind place s t =
     let top = IsDocument-unique bytes s.0 t.0 s.1.document t.1.document in
-    let first = sym s.2 ∙ ap (λ o. (params_of o).every) top ∙ t.2 in
-    let second = sym s.3 ∙ ap (λ o. 2 ^ (params_of o).bin_max) top ∙ t.3 in
+    let first = sym s.2.0 ∙ ap (λ o. (params_of o).every) top ∙ t.2.0 in
+    let second = sym s.2.1 ∙ ap (λ o. 2 ^ (params_of o).bin_max) top ∙ t.2.1 in
     ap (λ n. BadEvery n unit) first ∙ ap (BadEvery every') second
 Stands-unique bytes (BadTicks ticks every) (BadTicks ticks' every') kind place s t =
     let top = IsDocument-unique bytes s.0 t.0 s.1.document t.1.document in
-    let first = sym s.2 ∙ ap (λ o. (params_of o).ticks) top ∙ t.2 in
-    let second = sym s.3 ∙ ap (λ o. (params_of o).every) top ∙ t.3 in
+    let first = sym s.2.0 ∙ ap (λ o. (params_of o).ticks) top ∙ t.2.0 in
+    let second = sym s.2.1 ∙ ap (λ o. (params_of o).every) top ∙ t.2.1 in
     ap (λ n. BadTicks n every) first ∙ ap (BadTicks ticks') second
 Stands-unique bytes (BadBins low high) (BadBins low' high') kind place s t =
     let top = IsDocument-unique bytes s.0 t.0 s.1.document t.1.document in
-    let first = sym s.2 ∙ ap (λ o. (params_of o).bin_min) top ∙ t.2 in
-    let second = sym s.3 ∙ ap (λ o. (params_of o).bin_max) top ∙ t.3 in
+    let first = sym s.2.0 ∙ ap (λ o. (params_of o).bin_min) top ∙ t.2.0 in
+    let second = sym s.2.1 ∙ ap (λ o. (params_of o).bin_max) top ∙ t.2.1 in
     ap (λ n. BadBins n high) first ∙ ap (BadBins low') second
 Stands-unique bytes (Sums bound) (Sums bound') kind place s t =
     let top = IsDocument-unique bytes s.0 t.0 s.1.document t.1.document in
-    ap Sums (sym s.2 ∙ ap (λ o. bound_of (params_of o) (particles_of o)) top ∙ t.2)
+    ap Sums (sym s.2.0 ∙ ap (λ o. bound_of (params_of o) (particles_of o)) top ∙ t.2.0)
 Stands-unique bytes a b kind _ _ _ = absurd (omega arith)
 
 abbrev place : ℕ → ℕ → Place

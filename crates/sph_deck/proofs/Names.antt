@@ -16,7 +16,7 @@ use Rattle.toml.specs.declared.value.Value.{Value}
 use Rattle.sph_deck.specs.declared.key.Key.{Key}
 use Rattle.sph_deck.specs.declared.key.Key.TheVariants.{Ticks}
 use Rattle.sph_deck.specs.Keys.{keys, name_of, is_of_top}
-use Rattle.sph_deck.specs.Row.{key_of, IsKnownName, IsUnknownName, AreNamesKnown, HasUnknownName}
+use Rattle.sph_deck.specs.inner.Row.{key_of, IsKnownName, IsUnknownName, AreNamesKnown, HasUnknownName}
 
 -- an entry of a table's map
 abbrev Entry : Type 0

@@ -1,5 +1,5 @@
 -- The order of faults.
-use Rattle.std.proofs.Common.{◌≡◌, ℕ, ◌<◌, ◌≤◌, ◌⊎◌, inl, inr, arith}
+use Rattle.std.proofs.Common.{◌≡◌, ℕ, ◌<◌, ◌≤◌, ◌⊎◌, inl, inr, refl, arith}
 use Rattle.sph_deck.specs.declared.fault.DeckFault.{DeckFault}
 use Rattle.sph_deck.specs.FirstFault.{kind_of, place_of, IsNoLater}
 
@@ -22,6 +22,10 @@ numbers-trans k r c k' r' c' k'' r'' c'' (inl a) (inl b) = inl (omega arith)
 numbers-trans k r c k' r' c' k'' r'' c'' (inl a) (inr b) = inl (omega (arith, b.0))
 numbers-trans k r c k' r' c' k'' r'' c'' (inr a) (inl b) = inl (omega (arith, a.0))
 numbers-trans k r c k' r' c' k'' r'' c'' (inr a) (inr b) = inr (omega (arith, a.0, b.0), places-trans r c r' c' r'' c'' a.1 b.1)
+
+-- a fault comes no later than itself
+pub no_later-refl : (a : DeckFault) → IsNoLater a a
+no_later-refl a = inr (refl, inr (refl, omega arith))
 
 -- of three faults in a row the first comes no later than the last
 pub no_later-trans : (a b c : DeckFault) → IsNoLater a b → IsNoLater b c → IsNoLater a c

@@ -13,11 +13,11 @@ use Rattle.sph_deck.specs.declared.key.Key.{Key}
 use Rattle.sph_deck.specs.declared.key.Key.TheVariants.{Particle}
 use Rattle.sph_deck.specs.Document.{value_at, elements, table_at}
 use Rattle.sph_deck.specs.Faults.{IsKeyOf, IsMissingAt, IsNoTableAt, IsOfKind, IsOutside, IsUnknownAt, IsWrongAt, StandsInTable}
-use Rattle.sph_deck.specs.Judged.{place_at, judged, is_within}
+use Rattle.sph_deck.specs.inner.Judged.{place_at, judged, is_within}
 use Rattle.sph_deck.specs.Keys.{is_top, number_of, range_of, IsOwn}
-use Rattle.sph_deck.specs.Meets.{Meets}
-use Rattle.sph_deck.specs.Row.{IsRowFault, unknown_name, at_key}
-use Rattle.sph_deck.specs.Rows.{HasElementFault, IsArrayFault, judged_array, judged_items}
+use Rattle.sph_deck.specs.inner.Meets.{Meets}
+use Rattle.sph_deck.specs.inner.Row.{IsRowFault, unknown_name, at_key}
+use Rattle.sph_deck.specs.inner.Rows.{HasElementFault, IsArrayFault, judged_array, judged_items}
 use Rattle.sph_deck.proofs.Array.{fault_of_array}
 use Rattle.sph_deck.proofs.Standing.{fault_of_row, fault_of_elements}
 use Rattle.sph_deck.proofs.Walks.{meets_as, meets_both}

@@ -1,78 +1,91 @@
--- The faults of a row, met name by name and key by key.
-use Rattle.std.proofs.Common.{◌≡◌, ℕ, ◌⊎◌, true, false, Option, IsSome, inl, refl, arith}
+-- A row's walk over its names and over the keys that want an integer.
+use Rattle.std.proofs.Common.{◌≡◌, ℕ, ◌⊎◌, Bool, ℤ, List, [], ◌∷◌, Option, None, IsSome, inl, inr, refl, sym, subst}
+use Rattle.std.specs.Prelude.{⊤}
 use Rattle.toml.specs.Data.{Members}
 use Rattle.sph_deck.specs.declared.fault.DeckFault.{DeckFault}
 use Rattle.sph_deck.specs.declared.key.Key.{Key}
-use Rattle.sph_deck.specs.declared.key.Key.TheVariants.{Ticks, Every, BinMin, BinMax, Sound, Shift, Accuracy, Leaf, Pairs, Slack, Mass, H, X, Y, Z, Px, Py, Pz}
+use Rattle.sph_deck.specs.inner.Judged.{IsReadAt}
 use Rattle.sph_deck.specs.Keys.{range_of, is_of_top}
-use Rattle.sph_deck.specs.Meets.{Meets}
-use Rattle.sph_deck.specs.Row.{IsKeyFault, IsNameFault, IsRowFault, unknown_name, at_key}
-use Rattle.sph_deck.proofs.Walks.{meets_as, meets_both}
+use Rattle.sph_deck.specs.inner.Meets.{Meets}
+use Rattle.sph_deck.specs.inner.Row.{AreNumbersRead, IsKeyFault, IsNameFault, IsRowFault, ReadsKey, unknown_name, at_key}
+use Rattle.sph_deck.proofs.Walks.{meets_as, meets_both, meets_none, none_before}
+
+-- the integers of a row, each with its key
+abbrev pub Numbers : Type 0
+Numbers = List (Key × ℤ)
+
+-- the key is one of these
+abbrev pub IsAmong : Key → Numbers → Type 0
+IsAmong key [] = ⊥
+IsAmong key (n ∷ ns) = (key ≡ n.0) ⊎ IsAmong key ns
+
+-- they are the row's own keys that want an integer, all of them
+pub record AreOwn (of_top : Bool) (numbers : Numbers) : Type 0 where
+  pub own : (key : Key) → IsAmong key numbers → (is_of_top key ≡ of_top) × IsSome (range_of key)
+  pub all : (key : Key) → is_of_top key ≡ of_top → IsSome (range_of key) → IsAmong key numbers
+
+-- one of these keys has the fault
+abbrev pub HasKeyFault : ℕ → Members → Numbers → DeckFault → Type 0
+HasKeyFault row table [] fault = ⊥
+HasKeyFault row table (n ∷ ns) fault = IsKeyFault n.0 row table fault ⊎ HasKeyFault row table ns fault
+
+-- each of these integers stands at its key
+abbrev pub AreReadAt : Members → Numbers → Type 0
+AreReadAt table [] = ⊤
+AreReadAt table (n ∷ ns) = IsReadAt n.0 table n.1 × AreReadAt table ns
+
+-- the walk takes all of these keys
+pub record ReadsKeys (row : ℕ) (table : Members) (numbers : Numbers) (before after : Option DeckFault) : Type 0 where
+  pub faults : Meets (HasKeyFault row table numbers) before after
+  pub read : after ≡ None → AreReadAt table numbers
+
+-- it takes none
+pub reads_none : {row : ℕ} {table : Members} {a : Option DeckFault} → ReadsKeys row table [] a a
+reads_none = record { faults = meets_none; read = λ none. tt }
+
+-- it takes one and then the others
+pub reads_then : {row : ℕ} {table : Members} {key : Key} {z : ℤ} {numbers : Numbers} {a b c : Option DeckFault} → ReadsKey key row table z a b → ReadsKeys row table numbers b c
+    → ReadsKeys row table ((key, z) ∷ numbers) a c
+reads_then {b = b} {c = c} one rest = record {
+  faults = meets_both one.faults rest.faults;
+  read = λ none. (one.read (none_before b c rest.faults none), rest.read none);
+}
 
 module _ (row : ℕ) (table : Members) where
-  -- a fault of a particle's row, by its name or its key
-  abbrev IsOfParticle : DeckFault → Type 0
-  IsOfParticle fault =
-      IsNameFault false row table fault
-      ⊎ (IsKeyFault Mass row table fault
-      ⊎ (IsKeyFault H row table fault
-      ⊎ (IsKeyFault X row table fault
-      ⊎ (IsKeyFault Y row table fault
-      ⊎ (IsKeyFault Z row table fault
-      ⊎ (IsKeyFault Px row table fault
-      ⊎ (IsKeyFault Py row table fault
-      ⊎ IsKeyFault Pz row table fault)))))))
+  -- the fault at one of the keys
+  fault_at : (numbers : Numbers) (key : Key) (fault : DeckFault) → IsAmong key numbers → IsKeyFault key row table fault → HasKeyFault row table numbers fault
+  fault_at [] key fault among is = absurd among
+  fault_at (n ∷ ns) key fault (inl here) is = inl (subst (λ (k : Key). IsKeyFault k row table fault) here is)
+  fault_at (n ∷ ns) key fault (inr there) is = inr (fault_at ns key fault there is)
 
-  -- that is what the faults of the row are
-  of_particle : (fault : DeckFault) → IsOfParticle fault → IsRowFault false row table fault
-  of_particle fault h = grind (arith, unknown_name, at_key)
+  -- such a fault is one of the row
+  fault_of_keys : (of_top : Bool) (numbers : Numbers) (fault : DeckFault) → ((key : Key) → IsAmong key numbers → (is_of_top key ≡ of_top) × IsSome (range_of key)) → HasKeyFault row table numbers fault
+      → IsRowFault of_top row table fault
+  fault_of_keys of_top [] fault own has = absurd has
+  fault_of_keys of_top (n ∷ ns) fault own (inl is) = let (there, wants) = own n.0 (inl refl) in at_key n.0 fault there wants is
+  fault_of_keys of_top (n ∷ ns) fault own (inr has) = fault_of_keys of_top ns fault (λ key among. own key (inr among)) has
 
-  particle_key : (key : Key) (fault : DeckFault) → is_of_top key ≡ false → IsKeyFault key row table fault → IsOfParticle fault
-  particle_key _ fault own h = grind arith
+  -- the integer at one of the keys
+  number_at : (numbers : Numbers) (key : Key) → IsAmong key numbers → AreReadAt table numbers → (z : ℤ) × IsReadAt key table z
+  number_at [] key among read = absurd among
+  number_at (n ∷ ns) key (inl here) read = (n.1, subst (λ (k : Key). IsReadAt k table n.1) (sym here) read.0)
+  number_at (n ∷ ns) key (inr there) read = number_at ns key there read.1
 
-  particle_part : (fault : DeckFault) → IsRowFault false row table fault → IsOfParticle fault
-  particle_part fault (unknown_name has) = inl (has, refl)
-  particle_part fault (at_key key f own wants is) = particle_key key fault own is
+  module _ {of_top : Bool} {numbers : Numbers} (keys : AreOwn of_top numbers) where
+    -- a fault by an unknown name or at one of the keys is one of the row
+    of_row : (fault : DeckFault) → IsNameFault of_top row table fault ⊎ HasKeyFault row table numbers fault → IsRowFault of_top row table fault
+    of_row fault (inl (has, is)) = rw is (unknown_name has)
+    of_row fault (inr has) = fault_of_keys of_top numbers fault keys.own has
 
-  -- all steps of a particle's row
-  pub meets_particle : {o0 o1 o2 o3 o4 o5 o6 o7 o8 o9 : Option DeckFault} → Meets (IsNameFault false row table) o0 o1 → Meets (IsKeyFault Mass row table) o1 o2 → Meets (IsKeyFault H row table) o2 o3
-      → Meets (IsKeyFault X row table) o3 o4 → Meets (IsKeyFault Y row table) o4 o5 → Meets (IsKeyFault Z row table) o5 o6 → Meets (IsKeyFault Px row table) o6 o7 → Meets (IsKeyFault Py row table) o7 o8
-      → Meets (IsKeyFault Pz row table) o8 o9 → Meets (IsRowFault false row table) o0 o9
-  meets_particle names mass h x y z px py pz =
-      meets_as of_particle particle_part
-      (meets_both names (meets_both mass (meets_both h (meets_both x (meets_both y (meets_both z (meets_both px (meets_both py pz))))))))
+    -- and back
+    part_of_row : (fault : DeckFault) → IsRowFault of_top row table fault → IsNameFault of_top row table fault ⊎ HasKeyFault row table numbers fault
+    part_of_row fault (unknown_name has) = inl (has, refl)
+    part_of_row fault (at_key key f own wants is) = inr (fault_at numbers key fault (keys.all key own wants) is)
 
-module _ (top : Members) where
-  -- a fault of the top's row, by its name or its key
-  abbrev IsOfTop : DeckFault → Type 0
-  IsOfTop fault =
-      IsNameFault true 0 top fault
-      ⊎ (IsKeyFault Ticks 0 top fault
-      ⊎ (IsKeyFault Every 0 top fault
-      ⊎ (IsKeyFault BinMin 0 top fault
-      ⊎ (IsKeyFault BinMax 0 top fault
-      ⊎ (IsKeyFault Sound 0 top fault
-      ⊎ (IsKeyFault Shift 0 top fault
-      ⊎ (IsKeyFault Accuracy 0 top fault
-      ⊎ (IsKeyFault Leaf 0 top fault
-      ⊎ (IsKeyFault Pairs 0 top fault
-      ⊎ IsKeyFault Slack 0 top fault)))))))))
+    -- so a walk over the names and all keys is one over the row
+    pub meets_row : {a b c : Option DeckFault} → Meets (IsNameFault of_top row table) a b → ReadsKeys row table numbers b c → Meets (IsRowFault of_top row table) a c
+    meets_row names walk = meets_as of_row part_of_row (meets_both names walk.faults)
 
-  -- that is what the faults of the row are
-  of_the_top : (fault : DeckFault) → IsOfTop fault → IsRowFault true 0 top fault
-  of_the_top fault h = grind (arith, unknown_name, at_key)
-
-  top_key : (key : Key) (fault : DeckFault) → is_of_top key ≡ true → IsSome (range_of key) → IsKeyFault key 0 top fault → IsOfTop fault
-  top_key _ fault own wants h = grind arith
-
-  top_part : (fault : DeckFault) → IsRowFault true 0 top fault → IsOfTop fault
-  top_part fault (unknown_name has) = inl (has, refl)
-  top_part fault (at_key key f own wants is) = top_key key fault own wants is
-
-  -- all steps of the top's row
-  pub meets_top : {o0 o1 o2 o3 o4 o5 o6 o7 o8 o9 o10 o11 : Option DeckFault} → Meets (IsNameFault true 0 top) o0 o1 → Meets (IsKeyFault Ticks 0 top) o1 o2 → Meets (IsKeyFault Every 0 top) o2 o3
-      → Meets (IsKeyFault BinMin 0 top) o3 o4 → Meets (IsKeyFault BinMax 0 top) o4 o5 → Meets (IsKeyFault Sound 0 top) o5 o6 → Meets (IsKeyFault Shift 0 top) o6 o7 → Meets (IsKeyFault Accuracy 0 top) o7 o8
-      → Meets (IsKeyFault Leaf 0 top) o8 o9 → Meets (IsKeyFault Pairs 0 top) o9 o10 → Meets (IsKeyFault Slack 0 top) o10 o11 → Meets (IsRowFault true 0 top) o0 o11
-  meets_top names ticks every bin_min bin_max sound shift accuracy leaf pairs slack =
-      meets_as of_the_top top_part
-      (meets_both names (meets_both ticks (meets_both every (meets_both bin_min (meets_both bin_max (meets_both sound (meets_both shift (meets_both accuracy (meets_both leaf (meets_both pairs slack))))))))))
+    -- and without a fault all its integers were read
+    pub numbers_read : AreReadAt table numbers → AreNumbersRead of_top table
+    numbers_read read key own wants = number_at numbers key (keys.all key own wants) read

@@ -9,10 +9,10 @@ use Rattle.sph_deck.specs.declared.key.Key.{Key}
 use Rattle.sph_deck.specs.declared.key.Key.TheVariants.{Particle}
 use Rattle.sph_deck.specs.Document.{value_at, elements, table_at}
 use Rattle.sph_deck.specs.Faults.{IsKeyOf, IsOfKind, StandsInTable}
-use Rattle.sph_deck.specs.Judged.{place_at, judged, judged_number, judged_integer, is_within}
+use Rattle.sph_deck.specs.inner.Judged.{place_at, judged, judged_number, judged_integer, is_within}
 use Rattle.sph_deck.specs.Keys.{is_top, range_of}
-use Rattle.sph_deck.specs.Row.{IsRowFault, unknown_name, at_key}
-use Rattle.sph_deck.specs.Rows.{HasElementFault}
+use Rattle.sph_deck.specs.inner.Row.{IsRowFault, unknown_name, at_key}
+use Rattle.sph_deck.specs.inner.Rows.{HasElementFault}
 
 -- a value that has an integer is that integer
 integer_is : (value : Data) (z : ℤ) → as_integer value ≡ Some z → value ≡ integer z

@@ -5,14 +5,15 @@ use Rattle.std.proofs.lemmas.List.Elements.{All-nil, All-cons}
 use Rattle.std.specs.List.{cons_option}
 use Rattle.sph_num.specs.declared.particle.Params.{Params}
 use Rattle.sph_num.specs.declared.particle.Particle.{Particle as OneParticle}
+use Rattle.sph_num.specs.Ranges.{most_particles}
 use Rattle.toml.specs.Data.{Members, as_table}
 use Rattle.toml.specs.View.{view}
 use Rattle.toml.specs.declared.value.Value.{Value}
 use Rattle.sph_deck.specs.declared.fault.DeckFault.{DeckFault}
 use Rattle.sph_deck.specs.Document.{elements, particle_of}
-use Rattle.sph_deck.specs.Faults.{most_particles, StandsInTable}
-use Rattle.sph_deck.specs.Row.{AreNumbersRead}
-use Rattle.sph_deck.specs.Rows.{AreElementsRead, AreParamsRead, IsParticleRead, IsTableRead}
+use Rattle.sph_deck.specs.Faults.{StandsInTable}
+use Rattle.sph_deck.specs.inner.Row.{AreNumbersRead}
+use Rattle.sph_deck.specs.inner.Rows.{AreElementsRead, AreParamsRead, IsParticleRead, IsTableRead}
 
 -- an element's particle comes first
 particle_first : (o : Option Members) (particle : OneParticle) (tables : List Members) (particles : List OneParticle) → IsSomeAnd o (λ table. IsParticleRead table particle) → particles ≡ map particle_of tables

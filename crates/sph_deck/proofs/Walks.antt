@@ -2,8 +2,8 @@
 use Rattle.std.proofs.Common.{◌≡◌, ◌⊎◌, Option, Some, None, inl, inr, refl}
 use Rattle.sph_deck.specs.declared.fault.DeckFault.{DeckFault}
 use Rattle.sph_deck.specs.FirstFault.{IsNoLater}
-use Rattle.sph_deck.specs.Meets.{IsCovered, IsFirst, Meets}
-use Rattle.sph_deck.proofs.Order.{no_later-trans}
+use Rattle.sph_deck.specs.inner.Meets.{IsCovered, IsFirst, Meets}
+use Rattle.sph_deck.proofs.Order.{no_later-refl, no_later-trans}
 
 -- what covers a fault covers a later one
 covers_later : (o : Option DeckFault) (a b : DeckFault) → IsCovered o a → IsNoLater a b → IsCovered o b
@@ -22,6 +22,14 @@ uncovered o fault none h = rw none at h
 -- a fault of the first step is kept, or was kept before
 from_first : {P : DeckFault → Type 0} {a b : Option DeckFault} (Q : DeckFault → Type 0) → Meets P a b → (fault : DeckFault) → b ≡ Some fault → (a ≡ Some fault) ⊎ (P fault ⊎ Q fault)
 from_first Q m fault is = elim (m.from fault is) [ inl was ↦ inl was | inr one ↦ inr (inl one) ]
+
+-- a step that meets nothing
+pub meets_none : {a : Option DeckFault} → Meets (λ fault. ⊥) a a
+meets_none {a} = record {
+  kept = λ fault is. rw is (no_later-refl fault);
+  met = λ fault one. absurd one;
+  from = λ fault is. inl is;
+}
 
 module _ {P Q : DeckFault → Type 0} {a b c : Option DeckFault} where
   -- two steps, one after the other

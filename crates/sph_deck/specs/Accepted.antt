@@ -3,7 +3,7 @@ use Rattle.std.specs.Prelude.{◌≡◌, ℕ, ◌%◌, ◌^◌, ◌<◌, ◌≤�
 use Rattle.sph_num.specs.Bound.{bound_of}
 use Rattle.sph_num.specs.declared.particle.Params.{Params}
 use Rattle.sph_num.specs.declared.particle.Particle.{Particle}
-use Rattle.sph_num.specs.Ranges.{AreParamsInRange, IsBody, IsDeckMomentum}
+use Rattle.sph_num.specs.Ranges.{AreParamsInRange, IsBody, IsDeckMomentum, most_particles}
 
 -- each number is in its range, and there are as many particles as a deck may have
 pub record AreInRange (params : Params) (particles : List Particle) : Type 0 where
@@ -12,7 +12,7 @@ pub record AreInRange (params : Params) (particles : List Particle) : Type 0 whe
   pub momenta : (k : ℕ) (d : Particle) → k < length particles → IsDeckMomentum (slice_index_or particles k d)
   pub axes : (k : ℕ) (d : Particle) → k < length particles → length (slice_index_or particles k d).p ≡ 3
   pub some : 1 ≤ length particles
-  pub not_too_many : length particles ≤ 32768
+  pub not_too_many : length particles ≤ most_particles
 
 -- and the numbers fit together
 pub record AreAccepted (params : Params) (particles : List Particle) : Type 0 where

@@ -1,6 +1,6 @@
 -- Where each fault of a deck stands in its bytes, and which decks are accepted.
-use Rattle.std.specs.Prelude.{◌≡◌, ◌≢◌, ℕ, suc, ◌%◌, ◌^◌, ◌<◌, ◌≤◌, ◌⊎◌, ℤ, ◌≤ℤ◌, List, length, Option, Some, None, IsSome, slice_get}
-use Rattle.sph_num.specs.Bound.{bound_of}
+use Rattle.std.specs.Prelude.{◌≡◌, ◌≢◌, ℕ, suc, ◌<◌, ◌≤◌, ◌⊎◌, ℤ, ◌≤ℤ◌, List, length, Option, Some, None, IsSome, slice_get}
+use Rattle.sph_num.specs.Ranges.{most_particles}
 use Rattle.toml.specs.Data.{Data, array, integer, Items, Members, get_member, as_integer, as_array, as_table}
 use Rattle.sph_deck.specs.declared.deck.Deck.{Deck}
 use Rattle.sph_deck.specs.declared.fault.DeckFault.{DeckFault}
@@ -9,14 +9,12 @@ use Rattle.sph_deck.specs.declared.fault.Place.{Place}
 use Rattle.sph_deck.specs.declared.key.Key.{Key}
 use Rattle.sph_deck.specs.declared.key.Key.TheVariants.{Particle}
 use Rattle.sph_deck.specs.Keys.{name_of, number_of, range_of, IsOwn}
+use Rattle.sph_deck.specs.Agreement.{Disagree}
 use Rattle.sph_deck.specs.Document.{IsDocument, elements, value_at, table_at, params_of, particles_of}
 
--- the greatest length of a deck's text, and the greatest number of particles
+-- the greatest length of a deck's text
 abbrev pub longest_text : ℕ
 longest_text = 16777216
-
-abbrev pub most_particles : ℕ
-most_particles = 32768
 
 -- the place names this key of the row's own, and the row has this table
 pub record IsKeyOf (top : Members) (place : Place) (key : Key) (table : Members) : Type 0 where
@@ -96,18 +94,18 @@ pub record IsReadable (bytes : List ℕ) (top : Members) : Type 0 where
   pub document : IsDocument bytes top
   pub clean : (fault : DeckFault) → StandsInTable top fault → ⊥
 
+-- its numbers do not fit together
+abbrev pub DisagreesIn : List ℕ → DeckFault → Type 0
+DisagreesIn bytes fault = (top : Members) × IsReadable bytes top × Disagree (params_of top) (particles_of top) fault
+
 -- where each fault stands
 abbrev pub Stands : List ℕ → DeckFault → Type 0
 Stands bytes TooLong = longest_text < length bytes
 Stands bytes NotToml = (top : Members) → IsDocument bytes top → ⊥
-Stands bytes (BadEvery every unit) =
-    (top : Members) × IsReadable bytes top × ((params_of top).every ≡ every) × (2 ^ (params_of top).bin_max ≡ unit) × (every % unit ≢ 0)
-Stands bytes (BadTicks ticks every) =
-    (top : Members) × IsReadable bytes top × ((params_of top).ticks ≡ ticks) × ((params_of top).every ≡ every) × (ticks % every ≢ 0)
-Stands bytes (BadBins low high) =
-    (top : Members) × IsReadable bytes top × ((params_of top).bin_min ≡ low) × ((params_of top).bin_max ≡ high) × (high < low)
-Stands bytes (Sums bound) =
-    (top : Members) × IsReadable bytes top × (bound_of (params_of top) (particles_of top) ≡ bound) × (2 ^ 96 ≤ bound)
+Stands bytes (BadEvery every unit) = DisagreesIn bytes (BadEvery every unit)
+Stands bytes (BadTicks ticks every) = DisagreesIn bytes (BadTicks ticks every)
+Stands bytes (BadBins low high) = DisagreesIn bytes (BadBins low high)
+Stands bytes (Sums bound) = DisagreesIn bytes (Sums bound)
 Stands bytes fault = (top : Members) × IsDocument bytes top × StandsInTable top fault
 
 -- no fault stands

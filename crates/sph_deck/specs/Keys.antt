@@ -1,5 +1,6 @@
 -- The table of a deck's keys: name, number and range. A key of number 1 to 11 stands at the top, any other in a particle.
-use Rattle.std.specs.Prelude.{ℕ, zero, suc, ℤ, pos, neg_ℤ, List, [], ◌∷◌, codes, slice_get, Option, Some, None, Bool, true, false, ◌≡◌}
+use Rattle.std.specs.Prelude.{ℕ, ◌-◌, zero, suc, ℤ, pos, neg_ℤ, List, [], ◌∷◌, codes, slice_get, Option, Some, None, Bool, true, false, ◌≡◌}
+use Rattle.sph_num.specs.Space.{box_side}
 use Rattle.sph_deck.specs.declared.key.Key.{Key}
 use Rattle.sph_deck.specs.declared.key.Key.TheVariants.{Ticks, Every, BinMin, BinMax, Sound, Shift, Accuracy, Leaf, Pairs, Slack, Particle, Mass, H, X, Y, Z, Px, Py, Pz}
 
@@ -71,9 +72,9 @@ range_of Slack = Some (pos 0, pos 65535)
 range_of Particle = None
 range_of Mass = Some (pos 1, pos 65536)
 range_of H = Some (pos 1024, pos 131072)
-range_of X = Some (pos 0, pos 1048575)
-range_of Y = Some (pos 0, pos 1048575)
-range_of Z = Some (pos 0, pos 1048575)
+range_of X = Some (pos 0, pos (box_side - 1))
+range_of Y = Some (pos 0, pos (box_side - 1))
+range_of Z = Some (pos 0, pos (box_side - 1))
 range_of Px = Some (neg_ℤ (pos 9223372036854775807), pos 9223372036854775807)
 range_of Py = Some (neg_ℤ (pos 9223372036854775807), pos 9223372036854775807)
 range_of Pz = Some (neg_ℤ (pos 9223372036854775807), pos 9223372036854775807)

@@ -7,8 +7,5 @@ pub mod Document
 pub mod Faults
 pub mod FirstFault
 pub mod Keys
-pub mod Judged
-pub mod Row
-pub mod Rows
 pub mod Agreement
-pub mod Meets
+pub mod inner

@@ -1,7 +1,7 @@
 //! How large the sums of a deck's run may get, from the least and the greatest of its numbers.
 ghost use Rattle.std.specs.Prelude.{◌≡◌, ◌<◌, ◌≤◌, ◌^◌, ℕ, length, slice_index_or, All, IfOk, vec_len};
 ghost use Rattle.sph_num.specs.Bound.{bound_of, bounds_of, greatest_momentum, least_density, greatest_ghost, greatest_factor, greatest_force};
-ghost use Rattle.sph_num.specs.Ranges.{AreBoundsInRange, AreParamsInRange, IsBody, IsDeckMomentum};
+ghost use Rattle.sph_num.specs.Ranges.{AreBoundsInRange, AreParamsInRange, IsBody, IsDeckMomentum, most_particles};
 ghost use Rattle.sph_num.specs.declared.particle.Particle.{Particle};
 
 use sph_num::{Bounds, KERNEL_CONSTANT, Params, Particle, greatest_size};
@@ -11,7 +11,7 @@ use sph_num::{Bounds, KERNEL_CONSTANT, Params, Particle, greatest_size};
 pub fn bounds_of(_params: &Params, particles: &[Particle]) -> Bounds
     requires bodies { (k : ℕ) (d : Particle) → k < length particles.now → IsBody (slice_index_or particles.now k d) }
     requires some { 1 ≤ length particles.now }
-    requires not_too_many { length particles.now ≤ 32768 }
+    requires not_too_many { length particles.now ≤ most_particles }
     ensures { result ≡ bounds_of particles.now }
 {
     let mut mass = (particles[0].mass, 0);
@@ -34,7 +34,7 @@ pub fn bound_of(params: &Params, particles: &[Particle]) -> u128
     requires bodies { (k : ℕ) (d : Particle) → k < length particles.now → IsBody (slice_index_or particles.now k d) }
     requires momenta { (k : ℕ) (d : Particle) → k < length particles.now → IsDeckMomentum (slice_index_or particles.now k d) }
     requires some { 1 ≤ length particles.now }
-    requires not_too_many { length particles.now ≤ 32768 }
+    requires not_too_many { length particles.now ≤ most_particles }
     ensures { result ≡ bound_of params.now particles.now }
 {
     let bounds = bounds_of(params, particles);
@@ -95,6 +95,7 @@ fn greatest_force(sound: u32, bounds: Bounds) -> u128
 #[cfg(test)]
 mod tests {
     use super::*;
+    use sph_num::MOST_PARTICLES;
     use std::alloc::{AllocError, Global};
 
     const PARAMS: Params = Params {
@@ -163,7 +164,7 @@ mod tests {
             h: 131_072,
             ..HEAVY
         };
-        let particles = copies(rt.alloc(), light, 32_768)?;
+        let particles = copies(rt.alloc(), light, MOST_PARTICLES)?;
         assert_eq!(rt; bound_of(&PARAMS, &particles), 1_675_037_245_440);
         Ok(())
     }

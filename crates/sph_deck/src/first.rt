@@ -1,7 +1,7 @@
 //! The order of faults, and the first of those that a walk meets.
 ghost use Rattle.std.specs.Prelude.{◌≡◌, ◌≢◌, is_none, MatchBool};
 ghost use Rattle.sph_deck.specs.FirstFault.{kind_of, place_of, IsNoLater};
-ghost use Rattle.sph_deck.specs.Meets.{IsEarlier, Meets};
+ghost use Rattle.sph_deck.specs.inner.Meets.{IsEarlier, Meets};
 
 use crate::fault::{DeckFault, Place};
 

@@ -1,6 +1,9 @@
 //! The keys of a deck.
-ghost use Rattle.std.specs.Prelude.{◌≡◌, Some};
-ghost use Rattle.sph_deck.specs.Keys.{key_numbered, name_of, number_of, range_of};
+ghost use Rattle.std.specs.Prelude.{◌≡◌, Some, find};
+ghost use Rattle.std.specs.Str.{bytes_eq};
+ghost use Rattle.sph_deck.specs.Keys.{is_of_top, key_numbered, keys, name_of, number_of, range_of};
+
+use sph_num::BOX_SIDE;
 
 /// A key of the top, down to `Particle`, or of one particle. All but `Particle` want an integer.
 #[derive(Clone, Copy, Debug, PartialEq, Eq)]
@@ -27,7 +30,7 @@ pub enum Key {
 }
 
 /// Every key, in the order of their numbers from 1.
-pub(crate) const KEYS: [Key; 19] = [
+const KEYS: [Key; 19] = [
     Key::Ticks,
     Key::Every,
     Key::BinMin,
@@ -92,10 +95,25 @@ impl Key {
         KEYS.get(index as usize).copied()
     }
 
+    /// The key of a name, if there is one.
+    pub(crate) fn named(name: &str) -> Option<Key>
+        ensures { result ≡ find (λ key. bytes_eq (name_of key) name.now) keys }
+    {
+        KEYS.iter().copied().find(|key| key.name() == name)
+    }
+
+    /// Whether the key stands at the top.
+    pub(crate) fn is_of_top(self) -> bool
+        ensures { result ≡ is_of_top self }
+    {
+        self.number() <= Key::Particle.number()
+    }
+
     /// The least and the greatest integer that the key takes; none for the array of particles.
     pub fn range(self) -> Option<(i64, i64)>
         ensures { result ≡ range_of self }
     {
+        const COORDINATE: (i64, i64) = (0, BOX_SIDE as i64 - 1);
         const MOMENTUM: (i64, i64) = (-i64::MAX, i64::MAX);
         let range = match self {
             Key::Ticks => (0, 65_536),
@@ -110,7 +128,7 @@ impl Key {
             Key::Particle => return None,
             Key::Mass => (1, 65_536),
             Key::H => (1_024, 131_072),
-            Key::X | Key::Y | Key::Z => (0, 1_048_575),
+            Key::X | Key::Y | Key::Z => COORDINATE,
             Key::Px | Key::Py | Key::Pz => MOMENTUM,
         };
         Some(range)

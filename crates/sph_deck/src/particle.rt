@@ -2,9 +2,9 @@
 ghost use Rattle.std.specs.Prelude.{◌≡◌, ◌≤◌, false, length, map, IfOk, IsSomeAnd, OnOk};
 ghost use Rattle.toml.specs.View.{view, table_view};
 ghost use Rattle.sph_deck.specs.Faults.{longest_text};
-ghost use Rattle.sph_deck.specs.Meets.{Meets};
-ghost use Rattle.sph_deck.specs.Row.{IsRowFault};
-ghost use Rattle.sph_deck.specs.Rows.{AreElementsRead, HasElementFault, IsElementFault, IsElementRead, IsParticleRead};
+ghost use Rattle.sph_deck.specs.inner.Meets.{Meets};
+ghost use Rattle.sph_deck.specs.inner.Row.{IsRowFault};
+ghost use Rattle.sph_deck.specs.inner.Rows.{AreElementsRead, HasElementFault, IsElementFault, IsElementRead, IsParticleRead};
 
 use crate::fault::{DeckFault, Place};
 use crate::first::Faults;

@@ -8,8 +8,8 @@ ghost use Rattle.sph_deck.specs.declared.fault.DeckFault.{DeckFault};
 ghost use Rattle.sph_deck.specs.declared.refusal.DeckRefusal.TheVariants.{Fault, Memory};
 ghost use Rattle.sph_deck.specs.Faults.{longest_text, IsAccepted, StandsInTable};
 ghost use Rattle.sph_deck.specs.FirstFault.{AnswersDeck, IsFirstFault};
-ghost use Rattle.sph_deck.specs.Meets.{IsFirst};
-ghost use Rattle.sph_deck.specs.Rows.{IsRefusal, IsTableRead};
+ghost use Rattle.sph_deck.specs.inner.Meets.{IsFirst};
+ghost use Rattle.sph_deck.specs.inner.Rows.{IsRefusal, IsTableRead};
 
 use crate::bound::bound_of;
 use crate::deck::Deck;

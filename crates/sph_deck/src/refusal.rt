@@ -3,7 +3,7 @@ ghost use Rattle.std.specs.Prelude.{◌≡◌};
 ghost use Rattle.sph_deck.specs.declared.refusal.DeckRefusal.TheVariants.{Fault, Memory};
 
 use crate::fault::DeckFault;
-use std::alloc::{AllocError, AllocFailed};
+use std::alloc::AllocError;
 
 /// Why no deck was read.
 #[derive(Clone, Copy, Debug, PartialEq, Eq)]

@@ -1,16 +1,14 @@
 //! The table of one row: its names, and the integers at its keys.
-ghost use Rattle.std.specs.Prelude.{◌≡◌, pos, option_map, IsTrue, IfOk, MatchBool, find};
-ghost use Rattle.std.specs.Str.{bytes_eq};
+ghost use Rattle.std.specs.Prelude.{◌≡◌, pos, option_map, IsTrue, IfOk, MatchBool};
 ghost use Rattle.toml.specs.View.{view, table_view};
 ghost use Rattle.sph_deck.specs.Document.{value_at};
-ghost use Rattle.sph_deck.specs.Judged.{judged, is_whole, IsReadAt};
-ghost use Rattle.sph_deck.specs.Keys.{keys, name_of, is_of_top};
-ghost use Rattle.sph_deck.specs.Meets.{Meets};
-ghost use Rattle.sph_deck.specs.Row.{HasUnknownName, AreNamesKnown, IsKeyFault, IsKnownName, IsNameFault, IsUnknownName};
+ghost use Rattle.sph_deck.specs.inner.Judged.{judged, is_whole, IsReadAt};
+ghost use Rattle.sph_deck.specs.inner.Meets.{Meets};
+ghost use Rattle.sph_deck.specs.inner.Row.{HasUnknownName, AreNamesKnown, IsKnownName, IsNameFault, IsUnknownName, ReadsKey};
 
 use crate::fault::{DeckFault, Place};
 use crate::first::Faults;
-use crate::key::{KEYS, Key};
+use crate::key::Key;
 use toml::{Table, Value};
 
 /// The value at a key.
@@ -21,7 +19,7 @@ pub(crate) fn value_at<'a>(table: &'a Table, key: Key) -> Option<&'a Value>
 }
 
 /// The integer at a key, in the key's range, or the fault there.
-#[tactic(auto, unfolding(crate::specs::Judged::judged))]
+#[tactic(auto, unfolding(crate::specs::inner::Judged::judged))]
 fn integer(table: &Table, key: Key, row: u32) -> Result<i64, DeckFault>
     ensures judged { result ≡ judged key row (value_at key (table_view table.now)) }
     ensures read { IfOk result (IsReadAt key (table_view table.now)) }
@@ -43,8 +41,7 @@ fn integer(table: &Table, key: Key, row: u32) -> Result<i64, DeckFault>
 /// The integer at a key that takes none below 0, and none from 2^32 on; 0 after a fault.
 pub(crate) fn whole(table: &Table, key: Key, row: u32, faults: &mut Faults) -> u32
     requires { IsTrue (is_whole key) }
-    ensures faults { Meets (IsKeyFault key row (table_view table.now)) faults.old.first faults.new.first }
-    ensures read { faults.new.first ≡ None → IsReadAt key (table_view table.now) (pos result) }
+    ensures { ReadsKey key row (table_view table.now) (pos result) faults.old.first faults.new.first }
 {
     match integer(table, key, row) {
         Ok(z) => z as u32,
@@ -57,8 +54,7 @@ pub(crate) fn whole(table: &Table, key: Key, row: u32, faults: &mut Faults) -> u
 
 /// The integer at a key, as wide as a momentum; 0 after a fault.
 pub(crate) fn component(table: &Table, key: Key, row: u32, faults: &mut Faults) -> i128
-    ensures faults { Meets (IsKeyFault key row (table_view table.now)) faults.old.first faults.new.first }
-    ensures read { faults.new.first ≡ None → IsReadAt key (table_view table.now) result }
+    ensures { ReadsKey key row (table_view table.now) result faults.old.first faults.new.first }
 {
     match integer(table, key, row) {
         Ok(z) => i128::from(z),
@@ -69,26 +65,12 @@ pub(crate) fn component(table: &Table, key: Key, row: u32, faults: &mut Faults) 
     }
 }
 
-/// The key of a name.
-fn key_named(name: &str) -> Option<Key>
-    ensures { result ≡ find (λ key. bytes_eq (name_of key) name.now) keys }
-{
-    KEYS.iter().copied().find(|key| key.name() == name)
-}
-
-/// Whether a key stands at the top.
-fn is_of_top(key: Key) -> bool
-    ensures { result ≡ is_of_top key }
-{
-    key.number() <= Key::Particle.number()
-}
-
 /// Whether the name is that of a key of the top, or else of a particle.
 fn is_known_name(name: &str, of_top: bool) -> bool
     ensures { MatchBool result (IsKnownName of_top name.now) (IsUnknownName of_top name.now) }
 {
-    match key_named(name) {
-        Some(key) => is_of_top(key) == of_top,
+    match Key::named(name) {
+        Some(key) => key.is_of_top() == of_top,
         None => false,
     }
 }

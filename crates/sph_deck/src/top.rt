@@ -1,20 +1,18 @@
 //! The row of the top.
 ghost use Rattle.std.specs.Prelude.{◌≡◌, ◌≤◌, length, map, true, Ok, Err, MatchResult};
+ghost use Rattle.sph_num.specs.Ranges.{most_particles};
 ghost use Rattle.toml.specs.View.{items_view, table_view, view};
 ghost use Rattle.sph_deck.specs.Document.{elements, value_at};
-ghost use Rattle.sph_deck.specs.Faults.{most_particles};
-ghost use Rattle.sph_deck.specs.Meets.{Meets};
-ghost use Rattle.sph_deck.specs.Row.{IsRowFault};
-ghost use Rattle.sph_deck.specs.Rows.{judged_array, AreParamsRead, IsArrayFault, IsCountFault};
+ghost use Rattle.sph_deck.specs.inner.Meets.{Meets};
+ghost use Rattle.sph_deck.specs.inner.Row.{IsRowFault};
+ghost use Rattle.sph_deck.specs.inner.Rows.{judged_array, AreParamsRead, IsArrayFault, IsCountFault};
 
 use crate::fault::{DeckFault, Place};
 use crate::first::Faults;
 use crate::key::Key;
 use crate::row::{note_names, value_at, whole};
-use sph_num::Params;
+use sph_num::{MOST_PARTICLES, Params};
 use toml::{Table, Value};
-
-const MOST_PARTICLES: usize = 32_768;
 
 /// The numbers of the top.
 pub(crate) fn read_params(top: &Table, faults: &mut Faults) -> Params

@@ -1,6 +1,7 @@
 -- What a call does to a source and a sink in memory.
-use Rattle.std.specs.Prelude.{ℕ, ◌+◌, ◌-◌, ◌^◌, min, Bool, ◌==◌, ◌||◌, if◌then◌else◌, List, [], ◌++◌, length, take, drop, Result, Ok, Err}
+use Rattle.std.specs.Prelude.{ℕ, ◌-◌, min, Bool, ◌==◌, ◌||◌, if◌then◌else◌, List, [], ◌++◌, length, take, drop, Result, Ok, Err}
 use Rattle.std.specs.List.{list_any}
+use Rattle.sph_edge.specs.Causes.{one_more}
 use Rattle.sph_edge.specs.declared.traits.Failed.{Failed}
 
 -- a source in memory: the bytes that it has left, how many a call gives at most, the numbers of the
@@ -29,10 +30,6 @@ new_source bytes most fails = record { left = bytes; most = most; fails = fails;
 -- an empty sink that wasn't called yet
 abbrev pub new_sink : ℕ → ℕ → List ℕ → SinkState
 new_sink room most fails = record { held = []; room = room; most = most; fails = fails; calls = 0; faults = 0 }
-
--- one more, up to the end of the count's type
-abbrev pub one_more : ℕ → ℕ
-one_more count = min (count + 1) (2 ^ 64 - 1)
 
 -- the number is listed
 abbrev pub is_listed : ℕ → List ℕ → Bool

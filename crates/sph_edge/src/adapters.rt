@@ -1,6 +1,8 @@
 //! The adapters over std's reader and writer: the trusted edge.
-ghost use Rattle.std.specs.Prelude.{◌≡◌, MatchResult, IsErr};
-ghost use Rattle.sph_edge.specs.Causes.{HasCause};
+ghost use Rattle.std.specs.Prelude.{◌≡◌, ◌<◌, IfOk, IsErr, MatchResult};
+ghost use Rattle.std.specs.Io.{ReadsAtMost};
+ghost use Rattle.sph_edge.specs.Bytes.{TakesBytes, GivesBytes};
+ghost use Rattle.sph_edge.specs.Causes.{HasCause, IsCounted};
 
 use crate::traits::{Failed, Sink, Source};
 use std::io::{Read, Write};
@@ -44,7 +46,12 @@ impl<R: Read> Source for StdSource<R> {
 
     ghost faults = { λ source. source.faults };
 
-    fn take(&mut self, into: &mut [u8]) -> Result<usize, Failed> {
+    fn take(&mut self, into: &mut [u8]) -> Result<usize, Failed>
+        ensures bound { ReadsAtMost result into.new }
+        ensures bytes { TakesBytes (⟦<StdSource<R> as Source>⟧.left self.old) (⟦<StdSource<R> as Source>⟧.left self.new) result into.new }
+        ensures cause { HasCause (⟦<StdSource<R> as Source>⟧.faults self.old) (⟦<StdSource<R> as Source>⟧.faults self.new) result }
+        ensures counted { IsCounted (⟦<StdSource<R> as Source>⟧.faults self.old) (⟦<StdSource<R> as Source>⟧.faults self.new) result }
+    {
         counted(self.reader.read(into), &mut self.faults)
     }
 }
@@ -54,7 +61,12 @@ impl<W: Write> Sink for StdSink<W> {
 
     ghost faults = { λ sink. sink.faults };
 
-    fn give(&mut self, bytes: &[u8]) -> Result<usize, Failed> {
+    fn give(&mut self, bytes: &[u8]) -> Result<usize, Failed>
+        ensures bytes { GivesBytes (⟦<StdSink<W> as Sink>⟧.held self.old) (⟦<StdSink<W> as Sink>⟧.held self.new) result bytes.now }
+        ensures cause { HasCause (⟦<StdSink<W> as Sink>⟧.faults self.old) (⟦<StdSink<W> as Sink>⟧.faults self.new) result }
+        ensures counted { IsCounted (⟦<StdSink<W> as Sink>⟧.faults self.old) (⟦<StdSink<W> as Sink>⟧.faults self.new) result }
+        ensures some { IfOk result (λ count. 0 < count) }
+    {
         let count = counted(self.writer.write(bytes), &mut self.faults)?;
         if count == 0 {
             return counted(Err(Failed), &mut self.faults);
@@ -68,6 +80,7 @@ impl<W: Write> Sink for StdSink<W> {
 fn counted<T, E: Drop>(answer: Result<T, E>, faults: &mut u64) -> Result<T, Failed>
     ensures answer { MatchResult answer (λ value. result ≡ Ok value) (λ _. IsErr result) }
     ensures cause { HasCause faults.old faults.new result }
+    ensures counted { IsCounted faults.old faults.new result }
 {
     match answer {
         Ok(value) => Ok(value),
@@ -77,3 +90,6 @@ fn counted<T, E: Drop>(answer: Result<T, E>, faults: &mut u64) -> Result<T, Fail
         }
     }
 }
+
+#[cfg(test)]
+mod tests;

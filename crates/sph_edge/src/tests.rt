@@ -1,10 +1,11 @@
 //! Whole reads and writes over memory, short calls and failures among them, and over std's.
+ghost use Rattle.std.specs.Prelude.{None};
+
 use crate::{
     Failed, Gate, MemorySink, MemorySource, NoGate, ReadEnd, Sink, Source, StdSink, StdSource,
     read_whole, write_whole,
 };
 use std::alloc::{AllocError, Global};
-use std::io::{self, Write};
 use std::test::Fail;
 
 /// The bytes 0, 1, 2 and so on.
@@ -64,27 +65,45 @@ fn works_over_std(rt: HostRuntime) -> Result<(), Fail> {
     Ok(())
 }
 
-/// A writer that takes all and counts its flushes.
+/// A source of eight bytes, at most four a call, that counts the calls without room.
 #[derive(Drop)]
-struct FlushCounter(u32);
+struct RoomCounter {
+    given: usize,
+    without_room: u32,
+}
 
-impl Write for FlushCounter {
-    fn write(&mut self, bytes: &[u8]) -> io::Result<usize> {
-        Ok(bytes.len())
-    }
+impl Source for RoomCounter {
+    ghost left = { λ _. None };
 
-    fn flush(&mut self) -> io::Result<()> {
-        self.0 = self.0.saturating_add(1);
-        Ok(())
+    ghost faults = { λ _. 0 };
+
+    fn take(&mut self, into: &mut [u8]) -> Result<usize, Failed> {
+        if into.is_empty() {
+            self.without_room = self.without_room.saturating_add(1);
+        }
+        let count = into.len().min(4).min(8usize.saturating_sub(self.given));
+        self.given = self.given.saturating_add(count);
+        Ok(count)
     }
 }
 
-/// No contract can say that a flush happens.
+/// No contract can say that a source is always offered room.
 #[test]
-fn flushes_each_piece(rt: HostRuntime) {
-    let mut writer = FlushCounter(0);
-    let mut sink = StdSink::new(&mut writer);
-    assert_eq!(rt; write_whole(&mut sink, b"one"), Ok(()));
-    assert_eq!(rt; write_whole(&mut sink, b"two"), Ok(()));
-    assert_eq!(rt; writer.0, 2);
+fn always_offers_room(rt: HostRuntime) {
+    for (limit, given, end) in [
+        (0, 1, Some(ReadEnd::TooLong)),
+        (4, 5, Some(ReadEnd::TooLong)),
+        (7, 8, Some(ReadEnd::TooLong)),
+        (8, 8, None),
+        (40_000, 8, None),
+    ] {
+        let mut source = RoomCounter {
+            given: 0,
+            without_room: 0,
+        };
+        let read = read_whole(rt.alloc(), &mut source, limit);
+        assert_eq!(rt; read.err(), end, "at {limit}");
+        assert_eq!(rt; source.given, given, "at {limit}");
+        assert_eq!(rt; source.without_room, 0, "at {limit}");
+    }
 }

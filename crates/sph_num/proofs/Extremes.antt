@@ -1,47 +1,16 @@
 -- The least and the greatest of a list, which keep to what bounds its elements; a deck's bounds in range.
-use Rattle.std.proofs.Common.{ℕ, min, max, ◌^◌, ◌<◌, ◌≤◌, List, [], ◌∷◌, length, map, get_or, arith}
-use Rattle.std.specs.Prelude.{fold, flat_map, unsigned_abs}
+use Rattle.std.proofs.Common.{ℕ, max, ◌^◌, ◌<◌, ◌≤◌, List, ◌∷◌, length, map, get_or, arith, []}
+use Rattle.std.specs.Prelude.{flat_map, unsigned_abs}
 use Rattle.std.specs.List.{All}
 use Rattle.std.proofs.lemmas.List.{length-map}
-use Rattle.std.proofs.lemmas.List.Elements.{All-nil, All-cons, All-head, All-tail, All-map, All-weaker}
+use Rattle.std.proofs.lemmas.List.Elements.{All-map, All-weaker}
+use Rattle.lists.proofs.Extremes.{fold_min-ge, fold_min-le, fold_max-le, fold_max-ge, fold_max-lt}
+use Rattle.lists.proofs.Elements.{All-flat_map}
 use Rattle.sph_num.specs.declared.particle.Params.{Params}
 use Rattle.sph_num.specs.declared.particle.Particle.{Particle}
 use Rattle.sph_num.specs.Bound.{least_of, greatest_of, bounds_of, greatest_momentum, bound_of}
-use Rattle.sph_num.specs.Ranges.{IsBody, IsDeckMomentum, AreParamsInRange, AreBoundsInRange}
-use Rattle.sph_num.proofs.Members.{All-flat_map}
+use Rattle.sph_num.specs.Ranges.{most_particles, IsBody, IsDeckMomentum, AreParamsInRange, AreBoundsInRange}
 use Rattle.sph_num.proofs.Sums.{momentum_limit-lt}
-
--- the least of a number and a list, and the greatest
-pub fold_min-ge : (n a : ℕ) (xs : List ℕ) → n ≤ a → All (λ x. n ≤ x) xs → n ≤ fold min a xs
-fold_min-ge n a [] low each = low
-fold_min-ge n a (x ∷ xs) low each = fold_min-ge n (min a x) xs (omega (arith, All-head (λ x. n ≤ x) x xs each)) (All-tail (λ x. n ≤ x) x xs each)
-
-pub fold_min-le : (a : ℕ) (xs : List ℕ) → fold min a xs ≤ a
-fold_min-le a [] = omega arith
-fold_min-le a (x ∷ xs) = omega (arith, fold_min-le (min a x) xs)
-
-pub fold_max-le : (n a : ℕ) (xs : List ℕ) → a ≤ n → All (λ x. x ≤ n) xs → fold max a xs ≤ n
-fold_max-le n a [] high each = high
-fold_max-le n a (x ∷ xs) high each = fold_max-le n (max a x) xs (omega (arith, All-head (λ x. x ≤ n) x xs each)) (All-tail (λ x. x ≤ n) x xs each)
-
-pub fold_max-ge : (a : ℕ) (xs : List ℕ) → a ≤ fold max a xs
-fold_max-ge a [] = omega arith
-fold_max-ge a (x ∷ xs) = omega (arith, fold_max-ge (max a x) xs)
-
-pub fold_max-lt : (n a : ℕ) (xs : List ℕ) → a < n → All (λ x. x < n) xs → fold max a xs < n
-fold_max-lt n a [] high each = high
-fold_max-lt n a (x ∷ xs) high each = fold_max-lt n (max a x) xs (omega (arith, All-head (λ x. x < n) x xs each)) (All-tail (λ x. x < n) x xs each)
-
--- the least is no more than each element, and the greatest no less
-pub All-fold_min : (a : ℕ) (xs : List ℕ) → All (λ x. fold min a xs ≤ x) xs
-All-fold_min a [] = All-nil (λ x. fold min a [] ≤ x)
-All-fold_min a (x ∷ xs) =
-    All-cons (λ y. fold min (min a x) xs ≤ y) x xs (omega (arith, fold_min-le (min a x) xs)) (All-fold_min (min a x) xs)
-
-pub All-fold_max : (a : ℕ) (xs : List ℕ) → All (λ x. x ≤ fold max a xs) xs
-All-fold_max a [] = All-nil (λ x. x ≤ fold max a [])
-All-fold_max a (x ∷ xs) =
-    All-cons (λ y. y ≤ fold max (max a x) xs) x xs (omega (arith, fold_max-ge (max a x) xs)) (All-fold_max (max a x) xs)
 
 -- the least of a list is between what bounds each element, and so is the greatest
 pub least_of_within : (n m : ℕ) (xs : List ℕ) → 1 ≤ length xs → All (λ x. n ≤ x) xs → All (λ x. x ≤ m) xs → (n ≤ least_of xs) × (least_of xs ≤ m)
@@ -54,7 +23,7 @@ greatest_of_within n m (x ∷ xs) some low high =
     (omega (arith, fold_max-ge (max 0 x) xs, low 0 0 some), fold_max-le m 0 (x ∷ xs) (omega arith) high)
 
 -- the bounds of a deck's particles are in range
-pub AreBoundsInRange-bounds_of : (list : List Particle) → 1 ≤ length list → length list ≤ 32768 → All IsBody list → AreBoundsInRange (bounds_of list)
+pub AreBoundsInRange-bounds_of : (list : List Particle) → 1 ≤ length list → length list ≤ most_particles → All IsBody list → AreBoundsInRange (bounds_of list)
 AreBoundsInRange-bounds_of list some few bodies =
     let masses = map (λ (p : Particle). p.mass) list in
     let lengths = map (λ (p : Particle). p.h) list in
@@ -86,6 +55,6 @@ greatest_momentum-lt list momenta =
     fold_max-lt (2 ^ 63) 0 sizes (omega arith) each
 
 -- what the momenta of a deck's run may reach
-pub bound_of-lt : (params : Params) (list : List Particle) → AreParamsInRange params → 1 ≤ length list → length list ≤ 32768 → All IsBody list → All IsDeckMomentum list → bound_of params list < 2 ^ 126
+pub bound_of-lt : (params : Params) (list : List Particle) → AreParamsInRange params → 1 ≤ length list → length list ≤ most_particles → All IsBody list → All IsDeckMomentum list → bound_of params list < 2 ^ 126
 bound_of-lt params list in_range some few bodies momenta =
     momentum_limit-lt params (bounds_of list) (greatest_momentum list) in_range (AreBoundsInRange-bounds_of list some few bodies) (greatest_momentum-lt list momenta)

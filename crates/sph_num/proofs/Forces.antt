@@ -11,7 +11,7 @@ use Rattle.sph_num.specs.declared.particle.Bounds.{Bounds}
 use Rattle.sph_num.specs.declared.particle.Particle.{Particle}
 use Rattle.sph_num.specs.Bound.{least_density, greatest_ghost, greatest_factor, greatest_force}
 use Rattle.sph_num.specs.Density.{density_part, density_within, density_of}
-use Rattle.sph_num.specs.Force.{InReach, ghost_value, factor_within, force_factor, force_from, force_of}
+use Rattle.sph_num.specs.Force.{ghost_value, factor_within, force_factor, force_from, force_of}
 use Rattle.sph_num.specs.Kernel.{root_of, kernel_u, kernel_constant}
 use Rattle.sph_num.specs.Ranges.{AreBoundsInRange}
 use Rattle.sph_num.specs.Space.{minimal, axis2, dist2}
@@ -49,14 +49,8 @@ pub record IsBodyWithin (b : Bounds) (body : Particle) : Type 0 where
   pub h_low : b.h.0 ≤ body.h
   pub h_high : body.h ≤ b.h.1
 
--- the factor of a pair of such bodies
-pub force_factor-le : (sound : ℕ) (b : Bounds) (i j : Particle) (gi gj r2 : ℕ) → AreBoundsInRange b → IsBodyWithin b i → IsBodyWithin b j → gi ≤ greatest_ghost sound b → gj ≤ greatest_ghost sound b → force_factor (i.mass ∷ j.mass ∷ []) (i.h ∷ j.h ∷ []) (gi ∷ gj ∷ []) r2 ≤ 2 * greatest_factor sound b
-force_factor-le sound b i j gi gj r2 are first second low_i low_j =
-    let both = mul-le i.mass j.mass b.mass.1 b.mass.1 first.mass_high second.mass_high in
-    omega (arith, factor_within-le sound b (i.mass * j.mass) gi r2 i.h are both low_i first.h_low, factor_within-le sound b (i.mass * j.mass) gj r2 j.h are both low_j second.h_low)
-
 -- a number with a lesser square is less
-lt-from_squares : (d h : ℕ) → d * d < h * h → d < h
+pub lt-from_squares : (d h : ℕ) → d * d < h * h → d < h
 lt-from_squares d h less =
     elim (cases_lt d h) [
       | inl below ↦ below
@@ -74,16 +68,11 @@ factor_offset-le sound b masses g r2 h d are few weak low high near =
     ]
 
 -- the square of each axis is within that of the distance
-axis2-le : (a b : List ℕ) (axis : ℕ) → axis < 3 → axis2 a b axis ≤ dist2 a b
+pub axis2-le : (a b : List ℕ) (axis : ℕ) → axis < 3 → axis2 a b axis ≤ dist2 a b
 axis2-le a b zero h = omega arith
 axis2-le a b (suc zero) h = omega arith
 axis2-le a b (suc (suc zero)) h = omega arith
 axis2-le a b (suc (suc (suc axis))) h = absurd (omega arith)
-
--- a pair in reach is on each axis less than the greater of its lengths apart; a pair out of reach has no factor
-pub minimal_in_reach-lt : (a b : List ℕ) (h h' axis : ℕ) → InReach (dist2 a b) h h' → axis < 3 → unsigned_abs (minimal (get_or a axis 0) (get_or b axis 0)) < max h h'
-minimal_in_reach-lt a b h h' axis reach real =
-    lt-from_squares (unsigned_abs (minimal (get_or a axis 0) (get_or b axis 0))) (max h h') (omega (arith, axis2-le a b axis real))
 
 pub force_factor_out_of_reach : (mi mj h h' gi gj r2 : ℕ) → max h h' * max h h' ≤ r2 → force_factor (mi ∷ mj ∷ []) (h ∷ h' ∷ []) (gi ∷ gj ∷ []) r2 ≡ 0
 force_factor_out_of_reach mi mj h h' gi gj r2 beyond =

@@ -1,5 +1,5 @@
 -- What one mass adds to the density: how large it gets, and that two divisions of 64 bits give it.
-use Rattle.std.proofs.Common.{◌≡◌, ℕ, ◌+◌, ◌*◌, ◌/◌, ◌%◌, ◌^◌, ◌<◌, ◌≤◌, ap, sym, ◌∙◌, arith}
+use Rattle.std.proofs.Common.{◌≡◌, ℕ, ◌+◌, ◌*◌, ◌/◌, ◌%◌, ◌^◌, ◌<◌, ◌≤◌, ap, sym, arith}
 use Rattle.std.proofs.lemmas.Nat.{mul-le, mod_below}
 use Rattle.std.proofs.Math.Nat.{mod-eq_of_lt}
 use Rattle.sph_num.specs.Density.{density_part}
@@ -12,12 +12,18 @@ use Rattle.sph_num.proofs.Spline.{kernel_w-le}
 pub weighted-le : (mass w : ℕ) → IsMass mass → w ≤ 2 ^ 30 → mass * 166886 * w ≤ 166886 * 2 ^ 46
 weighted-le mass w is high = omega (arith, mul-le (mass * 166886) w (2 ^ 16 * 166886) (2 ^ 30) (omega (arith, is.high)) high)
 
--- a length's third power
+-- a length's square, and its third power
+pub square_low : (h : ℕ) → IsLength h → 2 ^ 20 ≤ h * h
+square_low h is = mul-le (2 ^ 10) (2 ^ 10) h h is.low is.low
+
+pub square_high : (h : ℕ) → IsLength h → h * h ≤ 2 ^ 34
+square_high h is = mul-le h h (2 ^ 17) (2 ^ 17) is.high is.high
+
 pub volume_low : (h : ℕ) → IsLength h → 2 ^ 30 ≤ h * h * h
-volume_low h is = mul-le (2 ^ 20) (2 ^ 10) (h * h) h (mul-le (2 ^ 10) (2 ^ 10) h h is.low is.low) is.low
+volume_low h is = mul-le (2 ^ 20) (2 ^ 10) (h * h) h (square_low h is) is.low
 
 pub volume_high : (h : ℕ) → IsLength h → h * h * h ≤ 2 ^ 51
-volume_high h is = mul-le (h * h) h (2 ^ 34) (2 ^ 17) (mul-le h h (2 ^ 17) (2 ^ 17) is.high is.high) is.high
+volume_high h is = mul-le (h * h) h (2 ^ 34) (2 ^ 17) (square_high h is) is.high
 
 -- two divisions of 64 bits give the scaled quotient
 pub two_divisions : (n d : ℕ) → n < 2 ^ 64 → 2 ^ 30 ≤ d → d ≤ 2 ^ 51 → ((n / d) * 256) % 2 ^ 64 + (((n % d) * 256) % 2 ^ 64) / d ≡ (n * 256) / d
@@ -37,9 +43,7 @@ density_part-lt mass r2 h is_mass is_length =
     let weighted = weighted-le mass w is_mass (kernel_w-le (root_of r2 h)) in
     div-lt (mass * kernel_constant * w * 2 ^ 8) (h * h * h) (2 ^ 30) (2 ^ 42) (omega arith) (volume_low h is_length) (omega (arith, weighted))
 
--- what the code computes from the kernel at the root
-pub density_part-is : (mass r2 h w : ℕ) → IsMass mass → IsLength h → w ≤ 2 ^ 30 → w ≡ kernel_w (root_of r2 h) → ((mass * 166886 * w / (h * h * h)) * 256) % 2 ^ 64 + (((mass * 166886 * w % (h * h * h)) * 256) % 2 ^ 64) / (h * h * h) ≡ density_part mass r2 h
+-- the scaled quotient from the kernel at the root
+pub density_part-from : (mass r2 h w : ℕ) → w ≡ kernel_w (root_of r2 h) → (mass * 166886 * w * 2 ^ 8) / (h * h * h) ≡ density_part mass r2 h
 unfolding density_part
-density_part-is mass r2 h w is_mass is_length small is =
-    two_divisions (mass * 166886 * w) (h * h * h) (omega (arith, weighted-le mass w is_mass small)) (volume_low h is_length) (volume_high h is_length)
-    ∙ ap (λ x. (mass * 166886 * x * 256) / (h * h * h)) is
+density_part-from mass r2 h w is = ap (λ x. (mass * 166886 * x * 2 ^ 8) / (h * h * h)) is

@@ -34,7 +34,7 @@ fails_above_greatest passes zero k above high = absurd (omega arith)
 fails_above_greatest passes (suc n) k above high = grind (arith, fails_above_greatest passes n k)
 
 -- a greater number has a greater square
-square-le : (s k n : ℕ) → s ≤ k → (s * s) * n ≤ (k * k) * n
+pub square-le : (s k n : ℕ) → s ≤ k → (s * s) * n ≤ (k * k) * n
 square-le s k n h = mul-le (s * s) n (k * k) n (mul-le s s k k h h) (omega arith)
 
 -- a number is within its square times m, if m isn't 0

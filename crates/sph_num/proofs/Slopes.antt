@@ -1,9 +1,11 @@
 -- The kernel's slope, and what one length gives to the factor of a force: how large they get.
-use Rattle.std.proofs.Common.{◌≡◌, ℕ, ◌-◌, ◌*◌, ◌/◌, ◌^◌, ◌<◌, ◌≤◌, inl, inr, sym, ap, ◌∙◌, ◌%◌, arith, rules, tests}
+use Rattle.std.proofs.Common.{◌≡◌, ℕ, ◌-◌, ◌*◌, ◌/◌, ◌^◌, ◌<◌, ◌≤◌, inl, inr, sym, ap, ◌∙◌, arith, rules, tests}
 use Rattle.std.proofs.lemmas.Bool.{cases_lt}
 use Rattle.std.proofs.lemmas.Nat.{mul-le}
+use Rattle.std.proofs.Math.Nat.{zero-div}
 use Rattle.sph_num.specs.Force.{factor_within}
 use Rattle.sph_num.specs.Kernel.{kernel_u, kernel_constant, root_of}
+use Rattle.sph_num.specs.inner.Parts.{slope_within}
 use Rattle.sph_num.specs.Ranges.{IsLength}
 use Rattle.sph_num.proofs.Divisions.{div-lt}
 use Rattle.sph_num.proofs.Parts.{volume_low}
@@ -69,10 +71,25 @@ factor_within-lt masses g r2 h few below is =
       | inr beyond ↦ omega (arith, factor_within_outer masses g r2 h beyond)
     ]
 
--- what the code computes from the slope at the root
-pub factor_within-is : (masses g r2 h u : ℕ) → masses ≤ 2 ^ 32 → g < 2 ^ 42 → IsLength h → r2 < h * h → u ≤ 12288 → u ≡ kernel_u (root_of r2 h) → (((masses * 166886) * (g * u)) * 1048576) % 2 ^ 128 / ((h * h * h) * (h * h)) ≡ factor_within masses g r2 h
-factor_within-is masses g r2 h u few below is reach high at =
-    let numerator = factor_numerator-lt masses g u few below high in
-    let whole : (((masses * 166886) * (g * u)) * 1048576) % 2 ^ 128 ≡ masses * g * kernel_constant * u * 2 ^ 20 = omega arith in
-    let fifth : (h * h * h) * (h * h) ≡ h * h * h * h * h = omega arith in
-    rw (whole, fifth) (ap (λ x. (masses * g * kernel_constant * x * 2 ^ 20) / (h * h * h * h * h)) at ∙ sym (factor_within_inner masses g r2 h reach))
+-- the slope, from the square of a distance
+pub slope_within_inner : (r2 h : ℕ) → r2 < h * h → slope_within r2 h ≡ kernel_u (root_of r2 h)
+unfolding slope_within
+slope_within_inner r2 h reach = search (rules, tests)
+
+pub slope_within_outer : (r2 h : ℕ) → h * h ≤ r2 → slope_within r2 h ≡ 0
+unfolding slope_within
+slope_within_outer r2 h beyond = search (rules, tests)
+
+-- what one length gives, from that slope at any distance
+pub factor_within-is : (masses g r2 h : ℕ) → factor_within masses g r2 h ≡ (masses * g * kernel_constant * slope_within r2 h * 2 ^ 20) / (h * h * h * h * h)
+factor_within-is masses g r2 h =
+    let by = λ (u : ℕ). (masses * g * kernel_constant * u * 2 ^ 20) / (h * h * h * h * h) in
+    elim (cases_lt r2 (h * h)) [
+      | inl reach ↦ factor_within_inner masses g r2 h reach ∙ ap by (sym (slope_within_inner r2 h reach))
+      | inr beyond ↦ factor_within_outer masses g r2 h beyond ∙ sym (ap by (slope_within_outer r2 h beyond) ∙ none masses g (h * h * h * h * h))
+    ]
+  where
+    none : (masses g d : ℕ) → (masses * g * kernel_constant * 0 * 2 ^ 20) / d ≡ 0
+    none masses g d =
+        let nothing : masses * g * kernel_constant * 0 * 2 ^ 20 ≡ 0 = omega arith in
+        ap (λ n. n / d) nothing ∙ zero-div d

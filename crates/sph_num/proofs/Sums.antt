@@ -1,22 +1,22 @@
 -- How large the sums of a run get: the density at a particle, and the limits from a deck's bounds.
 use Rattle.std.proofs.Common.{◌≡◌, ℕ, ◌+◌, ◌-◌, ◌*◌, ◌/◌, ◌^◌, ◌<◌, ◌≤◌, List, length, get_or, ap, ◌∙◌, arith}
-use Rattle.std.specs.List.{All, Contains}
+use Rattle.std.specs.List.{All}
 use Rattle.std.specs.Prelude.{pos, ◌+ℤ◌, ◌-ℤ◌, unsigned_abs}
 use Rattle.std.specs.Int.{int_rem_euclid}
 use Rattle.std.proofs.lemmas.Int.{ints}
 use Rattle.std.proofs.lemmas.Nat.{mul-le, le-div}
 use Rattle.std.proofs.lemmas.Bool.Decides.{nat_tests}
 use Rattle.std.proofs.lemmas.List.Elements.{All-weaker}
-use Rattle.std.proofs.lemmas.List.Sums.{sum_by-le, get_or-le-sum_by}
+use Rattle.std.proofs.lemmas.List.Sums.{sum_by-le}
 use Rattle.std.proofs.Math.Nat.{pow-le-pow_right}
 use Rattle.sph_num.specs.declared.particle.Bounds.{Bounds}
 use Rattle.sph_num.specs.declared.particle.Params.{Params}
 use Rattle.sph_num.specs.declared.particle.Particle.{Particle}
 use Rattle.sph_num.specs.Bound.{least_density, greatest_ghost, greatest_factor, greatest_force, momentum_limit}
-use Rattle.sph_num.specs.Density.{density_part, density_within, density_of}
+use Rattle.sph_num.specs.Density.{density_within, density_of}
 use Rattle.sph_num.specs.Kernel.{kernel_w, kernel_constant, root_of}
-use Rattle.sph_num.specs.Ranges.{IsMass, IsLength, IsBody, AreParamsInRange, AreBoundsInRange}
-use Rattle.sph_num.specs.Space.{minimal, axis2, dist2}
+use Rattle.sph_num.specs.Ranges.{most_particles, IsMass, IsLength, IsBody, AreParamsInRange, AreBoundsInRange}
+use Rattle.sph_num.specs.Space.{box_side, minimal, axis2, dist2}
 use Rattle.sph_num.proofs.Divisions.{div-lt}
 use Rattle.sph_num.proofs.Parts.{density_part-lt, volume_low, volume_high}
 use Rattle.sph_num.proofs.Roots.{root_of-is}
@@ -30,7 +30,7 @@ density_within-lt mass r2 h is_mass is_length =
     grind (arith, nat_tests)
 
 -- the density of no more than 32,768 bodies
-pub density_of-lt : (place : Particle → List ℕ) (list : List Particle) (i : Particle) → All IsBody list → length list ≤ 32768 → IsBody i → density_of place list i < 2 ^ 61
+pub density_of-lt : (place : Particle → List ℕ) (list : List Particle) (i : Particle) → All IsBody list → length list ≤ most_particles → IsBody i → density_of place list i < 2 ^ 61
 density_of-lt place list i bodies few body =
     let part = λ (j : Particle). density_within j.mass (dist2 (place i) (place j)) i.h in
     let each = All-weaker IsBody (λ j. part j ≤ 2 ^ 46 - 1) (λ j is. let below = density_within-lt j.mass (dist2 (place i) (place j)) i.h is.mass body.h in omega arith) list bodies in
@@ -44,28 +44,11 @@ root_of-zero h low = root_of-is 0 h 0 low (record { within = omega arith; above 
 pub kernel_w-root_of-zero : (h : ℕ) → 1 ≤ h → kernel_w (root_of 0 h) ≡ 2 ^ 30
 kernel_w-root_of-zero h low = ap kernel_w (root_of-zero h low) ∙ kernel_w_inner 0 (omega arith)
 
--- what a mass adds at its own place
-density_part_alone : (mass h : ℕ) → IsMass mass → IsLength h → 20 ≤ density_part mass 0 h
-unfolding density_part
-density_part_alone mass h is_mass is_length =
-    let w = kernel_w (root_of 0 h) in
-    let full : w ≡ 2 ^ 30 = kernel_w-root_of-zero h (omega (arith, is_length.low)) in
-    let volume = volume_high h is_length in
-    le-div 20 (mass * kernel_constant * w * 2 ^ 8) (h * h * h) (omega (arith, volume_low h is_length))
-    (rw full (omega (arith, is_mass.low)))
-
--- a body alone gives a density of 20 or more
-pub density_alone : (mass h : ℕ) → IsMass mass → IsLength h → 20 ≤ density_within mass 0 h
-density_alone mass h is_mass is_length =
-    let part = density_part_alone mass h is_mass is_length in
-    let reach = mul-le 1 1 h h (omega (arith, is_length.low)) (omega (arith, is_length.low)) in
-    grind (arith, nat_tests)
-
 -- the minimal image of a number minus itself is 0
 pub minimal_self : (x : ℕ) → minimal x x ≡ pos 0
 minimal_self x =
     let none : pos x -ℤ pos x ≡ pos 0 = omega (arith, ints) in
-    ap (λ z. int_rem_euclid (z +ℤ pos (2 ^ 19)) (pos (2 ^ 20)) -ℤ pos (2 ^ 19)) none
+    ap (λ z. int_rem_euclid (z +ℤ pos (2 ^ 19)) (pos box_side) -ℤ pos (2 ^ 19)) none
 
 -- so is the square on each axis
 axis2_self : (a : List ℕ) (axis : ℕ) → axis2 a a axis ≡ 0
@@ -75,31 +58,13 @@ axis2_self a axis = ap (λ z. unsigned_abs z * unsigned_abs z) (minimal_self (ge
 pub dist2_self : (a : List ℕ) → dist2 a a ≡ 0
 dist2_self a = omega (arith, axis2_self a 0, axis2_self a 1, axis2_self a 2)
 
--- the density at a body of the list
-pub density_at_body : (place : Particle → List ℕ) (list : List Particle) (i : Particle) → Contains list i → IsBody i → 20 ≤ density_of place list i
-density_at_body place list i at body =
-    let part = λ (j : Particle). density_within j.mass (dist2 (place i) (place j)) i.h in
-    let one = get_or-le-sum_by part list at.0 i at.1 in
-    let here : part (get_or list at.0 i) ≡ part i = ap part at.2 in
-    let alone : part i ≡ density_within i.mass 0 i.h = ap (λ d. density_within i.mass d i.h) (dist2_self (place i)) in
-    let low = density_alone i.mass i.h body.mass body.h in
-    omega arith
-
 -- a product of numbers within their bounds
 mul3-le : (a b c l m n : ℕ) → a ≤ l → b ≤ m → c ≤ n → a * b * c ≤ l * m * n
 mul3-le a b c l m n p q r = mul-le (a * b) c (l * m) n (mul-le a b l m p q) r
 
--- the least mass alone at the greatest length
-least_density_numerator-lt : (mass : ℕ) → IsMass mass → mass * kernel_constant * 2 ^ 38 < 2 ^ 72
-least_density_numerator-lt mass is = omega (arith, is.high)
-
 least_density_at_least : (mass h : ℕ) → IsMass mass → IsLength h → 20 ≤ (mass * kernel_constant * 2 ^ 38) / (h * h * h)
 least_density_at_least mass h is_mass is_length =
     le-div 20 (mass * kernel_constant * 2 ^ 38) (h * h * h) (omega (arith, volume_low h is_length)) (omega (arith, is_mass.low, volume_high h is_length))
-
-least_density_below : (mass h : ℕ) → IsMass mass → IsLength h → (mass * kernel_constant * 2 ^ 38) / (h * h * h) < 2 ^ 42
-least_density_below mass h is_mass is_length =
-    div-lt (mass * kernel_constant * 2 ^ 38) (h * h * h) (2 ^ 30) (2 ^ 42) (omega arith) (volume_low h is_length) (omega (arith, is_mass.high))
 
 -- pressure over the square of a density of 20 or more
 ghost_below : (sound density : ℕ) → sound ≤ 65536 → 20 ≤ density → (sound * 2 ^ 30) / density < 2 ^ 42
@@ -110,7 +75,7 @@ masses_high : (mass : ℕ) → IsMass mass → mass * mass ≤ 2 ^ 32
 masses_high mass is = mul-le mass mass (2 ^ 16) (2 ^ 16) is.high is.high
 
 -- a force of all particles
-force_below : (count factor h : ℕ) → count ≤ 32768 → factor < 2 ^ 75 → IsLength h → 2 * count * factor * h < 2 ^ 108
+force_below : (count factor h : ℕ) → count ≤ most_particles → factor < 2 ^ 75 → IsLength h → 2 * count * factor * h < 2 ^ 108
 force_below count factor h few below is =
     omega (arith, mul3-le count factor h 32768 (2 ^ 75 - 1) 131072 few (omega arith) is.high)
 
@@ -123,9 +88,6 @@ momentum_below force ticks bin pmax weak short fine small =
 -- the limits of specs/Bound, at bounds in range
 pub least_density-ge : (b : Bounds) → AreBoundsInRange b → 20 ≤ least_density b
 least_density-ge b are = least_density_at_least b.mass.0 b.h.1 are.least_mass are.greatest_h
-
-pub least_density-lt : (b : Bounds) → AreBoundsInRange b → least_density b < 2 ^ 42
-least_density-lt b are = least_density_below b.mass.0 b.h.1 are.least_mass are.greatest_h
 
 pub greatest_ghost-lt : (sound : ℕ) (b : Bounds) → sound ≤ 65536 → AreBoundsInRange b → greatest_ghost sound b < 2 ^ 42
 greatest_ghost-lt sound b high are = ghost_below sound (least_density b) high (least_density-ge b are)

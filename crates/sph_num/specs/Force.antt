@@ -1,5 +1,5 @@
 -- The pressure force of the momentum equation without viscosity: what a pair gives, and the sum over all of them.
-use Rattle.std.specs.Prelude.{ℕ, ◌+◌, ◌*◌, ◌/◌, ◌^◌, ◌<◌, max, ℤ, pos, ◌*ℤ◌, List, [], ◌∷◌, slice_index, if◌then◌else◌, nat_lt}
+use Rattle.std.specs.Prelude.{ℕ, ◌+◌, ◌*◌, ◌/◌, ◌^◌, ◌<◌, max, ℤ, pos, ◌*ℤ◌, List, ◌∷◌, slice_index, if◌then◌else◌, nat_lt, []}
 use Rattle.sph_num.specs.declared.particle.Particle.{Particle}
 use Rattle.sph_num.specs.Kernel.{root_of, kernel_u, kernel_constant}
 use Rattle.sph_num.specs.Space.{minimal, dist2}

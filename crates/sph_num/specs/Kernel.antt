@@ -1,5 +1,5 @@
 -- The cubic spline kernel in whole numbers: the distance in 1024ths of the smoothing length, the kernel at it.
-use Rattle.std.specs.Prelude.{◌≡◌, ℕ, zero, suc, ◌+◌, ◌-◌, ◌*◌, ◌/◌, ◌^◌, ◌≤◌, Bool, if◌then◌else◌, nat_le, List, length, slice_index}
+use Rattle.std.specs.Prelude.{ℕ, zero, suc, ◌+◌, ◌-◌, ◌*◌, ◌/◌, ◌^◌, Bool, if◌then◌else◌, nat_le}
 
 -- the greatest number from 1 to n that passes the test, or 0 where none does
 abbrev pub greatest_passing : (ℕ → Bool) → ℕ → ℕ
@@ -25,8 +25,3 @@ kernel_u s =
 -- 8 over pi at a scale of 2^16, which makes the kernel's integral one, but for the rounding
 abbrev pub kernel_constant : ℕ
 kernel_constant = 166886
-
--- the list has the function's value at each distance from 0 to 1024
-pub record IsTableOf (f : ℕ → ℕ) (values : List ℕ) : Type 0 where
-  pub length : length values ≡ 1025
-  pub at : (s : ℕ) → s ≤ 1024 → slice_index values s ≡ f s

@@ -5,6 +5,8 @@ pub mod Force
 pub mod Kernel
 pub mod Kinds
 pub mod Motion
+pub mod Pull
 pub mod Ranges
 pub mod Space
 pub mod Totals
+pub mod inner

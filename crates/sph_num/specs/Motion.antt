@@ -1,7 +1,8 @@
 -- Where a particle is between its kicks, and what a kick adds.
-use Rattle.std.specs.Prelude.{ℕ, ◌-◌, ◌*◌, ◌^◌, ◌<◌, ℤ, pos, ◌+ℤ◌, ◌*ℤ◌, List, [], ◌∷◌, slice_index, unsigned_abs}
+use Rattle.std.specs.Prelude.{ℕ, ◌-◌, ◌*◌, ◌^◌, ◌<◌, ℤ, pos, ◌+ℤ◌, ◌*ℤ◌, List, ◌∷◌, slice_index, unsigned_abs, []}
 use Rattle.std.specs.Int.{int_div_euclid, int_rem_euclid}
 use Rattle.sph_num.specs.declared.particle.Particle.{Particle}
+use Rattle.sph_num.specs.Space.{box_side}
 use Rattle.sph_num.specs.Totals.{component, vector_of}
 
 -- each component of a momentum is below 2^96
@@ -16,7 +17,7 @@ drift_of shift t particle axis =
 -- the coordinate at a tick, round the box
 abbrev pub coordinate_at : ℕ → ℕ → Particle → ℕ → ℕ
 coordinate_at shift t particle axis =
-    unsigned_abs (int_rem_euclid (pos (slice_index particle.x0 axis) +ℤ drift_of shift t particle axis) (pos (2 ^ 20)))
+    unsigned_abs (int_rem_euclid (pos (slice_index particle.x0 axis) +ℤ drift_of shift t particle axis) (pos box_side))
 
 -- the place at a tick
 unfoldable pub position_of : ℕ → ℕ → Particle → List ℕ

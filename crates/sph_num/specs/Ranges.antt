@@ -5,6 +5,10 @@ use Rattle.sph_num.specs.declared.particle.Params.{Params}
 use Rattle.sph_num.specs.declared.particle.Particle.{Particle}
 use Rattle.sph_num.specs.Space.{IsPlace}
 
+-- the greatest number of particles
+abbrev pub most_particles : ℕ
+most_particles = 32768
+
 pub record AreParamsInRange (params : Params) : Type 0 where
   pub ticks : params.ticks ≤ 65536
   pub every_low : 1 ≤ params.every
@@ -43,7 +47,7 @@ IsDeckMomentum particle = All (λ p. unsigned_abs p < 2 ^ 63) particle.p
 -- the bounds of a deck's numbers. That no least is above its greatest isn't part of it: the lists in bounds make it so
 pub record AreBoundsInRange (b : Bounds) : Type 0 where
   pub count_low : 1 ≤ b.count
-  pub count_high : b.count ≤ 32768
+  pub count_high : b.count ≤ most_particles
   pub least_mass : IsMass b.mass.0
   pub greatest_mass : IsMass b.mass.1
   pub least_h : IsLength b.h.0

@@ -1,5 +1,5 @@
 -- Sums of signed numbers.
-use Rattle.std.specs.Prelude.{ℕ, ℤ, pos, ◌+ℤ◌, List, [], ◌∷◌, slice_index_or}
+use Rattle.std.specs.Prelude.{ℕ, ℤ, pos, ◌+ℤ◌, List, ◌∷◌, slice_index_or, []}
 
 -- the sum of a number for each element
 abbrev pub total_by : {A : Type 0} → (A → ℤ) → List A → ℤ

@@ -3,13 +3,11 @@ ghost use Rattle.std.specs.Prelude.{◌≡◌, ◌<◌, ◌*◌, ◌^◌};
 ghost use Rattle.sph_num.specs.Density.{density_part};
 ghost use Rattle.sph_num.specs.Ranges.{IsMass, IsLength};
 
-use crate::kernel::{Tables, root};
+use crate::kernel::Tables;
+use crate::length::Length;
 
-/// The kernel's constant, 8 over pi at a scale of 2^16.
-pub const KERNEL_CONSTANT: u64 = 166_886;
-
-/// What a mass adds to the density at a particle of smoothing length `h`, from the square `r2` of
-/// their distance. In two divisions of 64 bits, since the numerator can have 72.
+/// What a mass adds to the density at a particle of smoothing length `h`, from the square `r2` of their
+/// distance. For many pairs of one particle make its `Length` once.
 #[inline]
 pub fn density_part(tables: &Tables, mass: u32, r2: u64, h: u32) -> u64
     requires mass { IsMass mass }
@@ -18,10 +16,7 @@ pub fn density_part(tables: &Tables, mass: u32, r2: u64, h: u32) -> u64
     ensures value { result ≡ density_part mass r2 h }
     ensures below { result < 2 ^ 46 }
 {
-    let weighted = u64::from(mass) * KERNEL_CONSTANT * tables.w(root(r2, h));
-    let length = u64::from(h);
-    let volume = length * length * length;
-    (weighted / volume << 8) + (weighted % volume << 8) / volume
+    Length::new(h).density_part(tables, mass, r2)
 }
 
 #[cfg(test)]

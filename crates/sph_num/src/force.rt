@@ -1,10 +1,11 @@
 //! What one pair of particles gives to the force on each of the two.
 ghost use Rattle.std.specs.Prelude.{◌≡◌, ◌<◌, ◌≤◌, ◌^◌, slice_index, All};
-ghost use Rattle.sph_num.specs.Force.{ghost_value, factor_within, force_factor, InReach};
+ghost use Rattle.sph_num.specs.Force.{ghost_value, force_factor, InReach};
 ghost use Rattle.sph_num.specs.Ranges.{IsMass, IsLength};
 
-use crate::density::KERNEL_CONSTANT;
-use crate::kernel::{Tables, root};
+use crate::kernel::Tables;
+use crate::length::Length;
+use crate::pull::Pull;
 
 /// The ghost of a particle: the pressure over the square of its density, at a scale of 2^30. `sound` is
 /// the square of the isothermal speed of sound.
@@ -18,7 +19,8 @@ pub fn ghost_of(sound: u32, rho: u64) -> u64
 }
 
 /// The factor of the force of a pair, from the square `r2` of its distance: the force on the first is
-/// the factor times the minimal image of its place minus the other's, on each axis.
+/// the factor times the minimal image of its place minus the other's, on each axis. For many pairs of one
+/// particle make its `Pull` once.
 #[inline]
 pub fn force_part(tables: &Tables, masses: [u32; 2], hs: [u32; 2], gs: [u64; 2], r2: u64) -> u128
     requires masses { All IsMass masses }
@@ -28,28 +30,9 @@ pub fn force_part(tables: &Tables, masses: [u32; 2], hs: [u32; 2], gs: [u64; 2],
     ensures value { result ≡ force_factor masses hs gs r2 }
     ensures below { result < 2 ^ 76 }
 {
-    let both = u64::from(masses[0]) * u64::from(masses[1]);
-    factor_within(tables, both, gs[0], r2, hs[0]) + factor_within(tables, both, gs[1], r2, hs[1])
-}
-
-/// What one of the two lengths gives to the factor: nothing where the distance is no less.
-#[inline]
-fn factor_within(tables: &Tables, masses: u64, ghost_term: u64, r2: u64, h: u32) -> u128
-    requires masses { masses ≤ 2 ^ 32 }
-    requires ghost_term { ghost_term < 2 ^ 42 }
-    requires h { IsLength h }
-    ensures value { result ≡ factor_within masses ghost_term r2 h }
-    ensures below { result < 2 ^ 75 }
-{
-    let length = u64::from(h);
-    if r2 >= length * length {
-        return 0;
-    }
-    let mass_term = masses * KERNEL_CONSTANT;
-    let slope_term = ghost_term * u64::from(tables.u(root(r2, h)));
-    let volume = length * length * length;
-    let numerator = u128::from(mass_term) * u128::from(slope_term) << 20;
-    numerator / (u128::from(volume) * u128::from(length * length))
+    let first = Pull::new(Length::new(hs[0]), masses[0], gs[0]);
+    let second = Pull::new(Length::new(hs[1]), masses[1], gs[1]);
+    first.pair_factor(tables, &second, r2)
 }
 
 #[cfg(test)]
@@ -72,8 +55,6 @@ mod tests {
     #[test]
     fn adds_what_each_length_gives(rt: HostRuntime) -> Result<(), AllocError> {
         let tables = Tables::new(rt.alloc())?;
-        let half = factor_within(&tables, 1 << 20, 1286, 262_144, 1024);
-        assert_eq!(rt; half, 643_846_188);
         let even = force_part(&tables, [1024, 1024], [1024, 1024], [1286, 1286], 262_144);
         assert_eq!(rt; even, 1_287_692_376);
         let one_in_reach = force_part(

@@ -1,49 +1,32 @@
 //! The cubic spline kernel of Monaghan and Lattanzio (1985), over 1024ths of the smoothing length.
-ghost use Rattle.std.specs.Prelude.{◌≡◌, ◌<◌, ◌≤◌, ◌*◌, ◌^◌};
-ghost use Rattle.sph_num.specs.Kernel.{root_of, kernel_w, kernel_u, IsTableOf};
-ghost use Rattle.sph_num.specs.Ranges.{IsLength};
+ghost use Rattle.std.specs.Prelude.{◌≡◌, ◌≤◌, ◌^◌};
+ghost use Rattle.sph_num.specs.Kernel.{kernel_w, kernel_u};
+ghost use Rattle.sph_num.specs.inner.Parts.{IsTableOf};
 
+use crate::distance::Roots;
 use std::alloc::{AllocError, Global};
 
-/// The distance in 1024ths of the smoothing length `h`, rounded down, from the square `r2` of the
-/// distance. By bisection between 0 and 1024, in 64 bits.
-#[inline]
-pub fn root(r2: u64, h: u32) -> u32
-    requires h { IsLength h }
-    requires in_reach { r2 < h * h }
-    ensures value { result ≡ root_of r2 h }
-    ensures below { result < 1024 }
-{
-    let wanted = r2 << 20;
-    let h2 = u64::from(h) * u64::from(h);
-    let mut low = 0u64;
-    let mut high = 1024u64;
-    while low + 1 < high {
-        let middle = (low + high) / 2;
-        if middle * middle * h2 <= wanted {
-            low = middle;
-        } else {
-            high = middle;
-        }
-    }
-    low as u32
-}
+/// The kernel's constant, 8 over pi at a scale of 2^16.
+pub const KERNEL_CONSTANT: u64 = 166_886;
 
-/// The kernel at each of the 1,025 distances, made once for a step.
+/// The kernel at each of the 1,025 distances, and the square roots by which a distance is found: made
+/// once for a run.
 #[derive(Debug, Drop)]
 pub struct Tables {
     w: Vec<u64>,
     u: Vec<u32>,
-    ghost w_is_kernel: { IsTableOf kernel_w w.items },
-    ghost u_is_slope: { IsTableOf kernel_u u.items },
+    pub(crate) roots: Roots,
+    ghost w_is_kernel: { IsTableOf 1025 kernel_w w.items },
+    ghost u_is_slope: { IsTableOf 1025 kernel_u u.items },
 }
 
 impl Tables {
-    /// The tables, 12 KiB of them; fails only for want of memory.
+    /// The tables, 20 KiB of them; fails only for want of memory.
     pub fn new(alloc: Global) -> Result<Tables, AllocError> {
         let w = (0..1025).map(kernel_at).collect(alloc)?;
         let u = (0..1025).map(slope_at).collect(alloc)?;
-        Ok(Tables { w, u })
+        let roots = Roots::new(alloc)?;
+        Ok(Tables { w, u, roots })
     }
 
     /// The kernel at a distance of `s` 1024ths of the smoothing length, at a scale of 2^30.
@@ -97,12 +80,6 @@ fn slope_at(s: u32) -> u32
 #[cfg(test)]
 mod tests {
     use super::*;
-
-    #[test]
-    fn rounds_the_root_down(rt: HostRuntime) {
-        assert_eq!(rt; root(262_144, 1024), 512);
-        assert_eq!(rt; root(0, 131_072), 0);
-    }
 
     #[test]
     fn tabulates_the_kernel(rt: HostRuntime) -> Result<(), AllocError> {

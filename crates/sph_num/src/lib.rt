@@ -2,21 +2,28 @@
 #![tactic(auto)]
 
 mod density;
+mod distance;
 mod force;
 mod kernel;
 mod kind;
+mod length;
 mod list;
 mod motion;
 mod particle;
+mod pull;
+mod reciprocal;
 mod space;
 mod vector;
 
-pub use density::{KERNEL_CONSTANT, density_part};
+pub use density::density_part;
+pub use distance::root;
 pub use force::{force_part, ghost_of};
-pub use kernel::{Tables, root};
+pub use kernel::{KERNEL_CONSTANT, Tables};
 pub use kind::Kind;
+pub use length::Length;
 pub use list::ParticleList;
 pub use motion::position;
-pub use particle::{Bounds, Params, Particle};
-pub use space::{dist2, minimal};
+pub use particle::{Bounds, MOST_PARTICLES, Params, Particle};
+pub use pull::Pull;
+pub use space::{BOX_SIDE, dist2, minimal};
 pub use vector::greatest_size;

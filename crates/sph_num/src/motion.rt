@@ -3,9 +3,10 @@ ghost use Rattle.std.specs.Prelude.{◌≡◌, ◌+◌, ◌^◌, ◌<◌, ◌≤
 ghost use Rattle.std.specs.Int.{int_div_euclid, int_rem_euclid};
 ghost use Rattle.sph_num.specs.Motion.{position_of, IsMomentum};
 ghost use Rattle.sph_num.specs.Ranges.{IsMass};
-ghost use Rattle.sph_num.specs.Space.{IsPlace};
+ghost use Rattle.sph_num.specs.Space.{IsPlace, box_side};
 
 use crate::particle::Particle;
+use crate::space::BOX_SIDE;
 
 /// The place of a particle at tick `t`, in length units: since its last kick it drifts with its momentum,
 /// round the box. A momentum p moves a mass m by `p / (m * 2^shift)` length units in a tick.
@@ -45,15 +46,15 @@ fn drift(p: i128, ticks: u32, inertia: i128) -> i128
 /// A coordinate after so many ticks, round the box.
 #[inline]
 fn drifted(x: u32, p: i128, ticks: u32, inertia: i128) -> u32
-    requires in_box { x < 2 ^ 20 }
+    requires in_box { x < box_side }
     requires momentum { unsigned_abs p < 2 ^ 96 }
     requires ticks { ticks ≤ 1024 }
     requires inertia { pos 0 <ℤ inertia }
     ensures value { let drift = int_div_euclid (p *ℤ pos ticks) inertia in
-        result ≡ unsigned_abs (int_rem_euclid (pos x +ℤ drift) (pos (2 ^ 20))) }
-    ensures in_box { result < 2 ^ 20 }
+        result ≡ unsigned_abs (int_rem_euclid (pos x +ℤ drift) (pos box_side)) }
+    ensures in_box { result < box_side }
 {
-    (i128::from(x) + drift(p, ticks, inertia)).rem_euclid(1 << 20) as u32
+    (i128::from(x) + drift(p, ticks, inertia)).rem_euclid(BOX_SIDE as i128) as u32
 }
 
 #[cfg(test)]
@@ -62,7 +63,7 @@ mod tests {
 
     /// Where a mass of 1024 is on the first axis one tick after its kick at tick 0.
     fn after_a_tick(x: u32, push: i128, shift: u32) -> [u32; 3]
-        requires x { x < 2 ^ 20 }
+        requires x { x < box_side }
         requires push { unsigned_abs push < 2 ^ 96 }
         requires shift { shift ≤ 60 }
     {

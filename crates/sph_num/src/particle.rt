@@ -1,5 +1,8 @@
 //! What a run is about: its parameters, its particles and the bounds of their numbers.
 
+/// The greatest number of particles.
+pub const MOST_PARTICLES: usize = 32_768;
+
 /// The numbers of a deck's top, in their units.
 #[derive(Clone, Copy, Debug, PartialEq, Eq)]
 pub struct Params {

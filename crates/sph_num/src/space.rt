@@ -1,18 +1,18 @@
 //! Places and distances in the periodic box.
 ghost use Rattle.std.specs.Prelude.{◌≡◌, ◌<◌, ◌≤◌, ◌*◌, ◌^◌, unsigned_abs};
-ghost use Rattle.sph_num.specs.Space.{minimal, dist2, IsPlace};
+ghost use Rattle.sph_num.specs.Space.{box_side, minimal, dist2, IsPlace};
 
 /// The side of the box, in length units.
-const SIDE: u32 = 1 << 20;
+pub const BOX_SIDE: u32 = 1 << 20;
 
 /// The minimal image of `a - b` on one axis, in length units: from -2^19 to 2^19 - 1.
 #[inline]
 pub fn minimal(a: u32, b: u32) -> i32
-    requires a_in_box { a < 2 ^ 20 }
-    requires b_in_box { b < 2 ^ 20 }
+    requires a_in_box { a < box_side }
+    requires b_in_box { b < box_side }
     ensures { result ≡ minimal a b }
 {
-    ((a + SIDE + SIDE / 2 - b) % SIDE) as i32 - (SIDE / 2) as i32
+    ((a + BOX_SIDE + BOX_SIDE / 2 - b) % BOX_SIDE) as i32 - (BOX_SIDE / 2) as i32
 }
 
 /// The square of the distance of two places, in squares of length units: at most 3·2^38.
@@ -29,13 +29,13 @@ pub fn dist2(a: [u32; 3], b: [u32; 3]) -> u64
 /// The square of the minimal image on one axis.
 #[inline]
 fn axis2(a: u32, b: u32) -> u64
-    requires a_in_box { a < 2 ^ 20 }
-    requires b_in_box { b < 2 ^ 20 }
+    requires a_in_box { a < box_side }
+    requires b_in_box { b < box_side }
     ensures value { let d = unsigned_abs (minimal a b) in result ≡ d * d }
     ensures small { result ≤ 2 ^ 38 }
 {
-    let d = u64::from(minimal(a, b).unsigned_abs());
-    d * d
+    let d = i64::from(minimal(a, b));
+    (d * d) as u64
 }
 
 #[cfg(test)]
@@ -49,7 +49,7 @@ mod tests {
             (1_048_320, 256, -512),
             (0, 524_288, -524_288),
         ] {
-            assert!(rt; a < SIDE && b < SIDE);
+            assert!(rt; a < BOX_SIDE && b < BOX_SIDE);
             assert_eq!(rt; minimal(a, b), want, "at {a}, {b}");
         }
     }
@@ -57,7 +57,7 @@ mod tests {
     #[test]
     fn squares_a_distance_across_a_face(rt: HostRuntime) {
         for (a, b) in [(1000, 1512), (1_048_320, 256)] {
-            assert!(rt; a < SIDE && b < SIDE);
+            assert!(rt; a < BOX_SIDE && b < BOX_SIDE);
             assert_eq!(rt; dist2([a, 0, 0], [b, 0, 0]), 262_144, "at {a}, {b}");
         }
     }

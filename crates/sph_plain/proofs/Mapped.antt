@@ -47,12 +47,3 @@ written_all f [] (o ∷ os) i same high = absurd (omega arith)
 written_all f (x ∷ xs) [] i same high = absurd (omega arith)
 written_all f (x ∷ xs) (o ∷ os) zero same high = absurd (omega arith)
 written_all f (x ∷ xs) (o ∷ os) (suc i) same high = ap (λ z. f x ∷ z) (written_all f xs os i (omega arith) (omega arith))
-
--- the number of them
-pub length-written : {X Y : Type 0} (f : X → Y) (xs : List X) (olds : List Y) (i : ℕ) → length olds ≡ length xs → length (written f xs olds i) ≡ length xs
-length-written f [] [] zero same = refl
-length-written f [] [] (suc i) same = refl
-length-written f [] (o ∷ os) i same = absurd (omega arith)
-length-written f (x ∷ xs) [] i same = absurd (omega arith)
-length-written f (x ∷ xs) (o ∷ os) zero same = same
-length-written f (x ∷ xs) (o ∷ os) (suc i) same = ap suc (length-written f xs os i (omega arith))

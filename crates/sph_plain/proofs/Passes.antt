@@ -7,17 +7,18 @@ use Rattle.sph_num.specs.declared.particle.Params.{Params}
 use Rattle.sph_num.specs.declared.particle.Particle.{Particle}
 use Rattle.sph_num.specs.Force.{ghost_value}
 use Rattle.sph_num.specs.Motion.{position_of}
+use Rattle.sph_num.specs.Pull.{puller}
 use Rattle.sph_num.proofs.PastEnd.{no_particle}
 use Rattle.sph_bins.specs.Bins.{is_due}
 use Rattle.sph_bins.specs.Kick.{place_at, density_at, ghost_at, force_at, kicked_with, kicked, next_list}
 use Rattle.sph_plain.specs.declared.body.Body.{Body}
-use Rattle.sph_plain.specs.Bodies.{body_of, body_at, ghost_body, density_from, force_on, with_rho, with_density, next_particle}
+use Rattle.sph_plain.specs.inner.Bodies.{body_of, body_at, ghost_body, density_from, force_on, with_rho, with_density, with_ghost, next_particle}
 use Rattle.sph_plain.proofs.Mapped.{written, read_next, written_more, written_kept}
 use Rattle.sph_plain.proofs.Totals.{density_of_bodies, force_of_bodies}
 
 -- what a read past the end of a list would give
 abbrev pub no_body : Body
-no_body = record { place = []; h = 0; g = 0; mass = 0 }
+no_body = record { place = []; pull = puller 0 0 0 }
 
 -- an index of a list that was mapped
 pub inside_map : {X Y : Type 0} (f : X → Y) (xs : List X) (ys : List Y) (i : ℕ) → ys ≡ map f xs → i < length ys → i < length xs
@@ -114,20 +115,16 @@ pub rho_of_due : (params : Params) (t : ℕ) (list ps : List Particle) (i : ℕ)
 rho_of_due params t list ps i inside are is =
     ap (λ (p : Particle). p.rho) (read_map (with_density params t list) list ps i no_particle no_particle are inside ∙ with_density_due params t list (get_or list i no_particle) is)
 
--- a body with another ghost
-abbrev pub with_ghost : Body → ℕ → Body
-with_ghost b g = record b { g = g }
-
-pub ghost_given : (params : Params) (t : ℕ) (list ps : List Particle) (bodies : List Body) (i g : ℕ) (due : Bool) → i < length list → bodies ≡ bodies_with_ghosts params t list i → ps ≡ map (with_density params t list) list
-    → due ≡ is_due t (get_or ps i no_particle).bin → due ≡ true → g ≡ ghost_value params.sound (get_or ps i no_particle).rho → set bodies i (with_ghost (get_or bodies i no_body) g) ≡ bodies_with_ghosts params t list (i + 1)
-ghost_given params t list ps bodies i g due inside so_far are asked holds ghost_is =
+pub ghost_given : (params : Params) (t : ℕ) (list ps : List Particle) (bodies : List Body) (i g : ℕ) (new d : Body) (due : Bool) → i < length list → bodies ≡ bodies_with_ghosts params t list i → ps ≡ map (with_density params t list) list
+    → due ≡ is_due t (get_or ps i no_particle).bin → due ≡ true → g ≡ ghost_value params.sound (get_or ps i no_particle).rho → new ≡ with_ghost (get_or bodies i d) g → set bodies i new ≡ bodies_with_ghosts params t list (i + 1)
+ghost_given params t list ps bodies i g new d due inside so_far are asked holds ghost_is new_is =
     let p = get_or list i no_particle in
     let olds = map (body_at params t) list in
     let is = due_with_density params t list ps i due true inside are asked holds in
-    let body = read_next (ghost_body params t list) list olds bodies i no_body (length-map list (body_at params t)) inside so_far ∙ get_or-map (body_at params t) list i no_particle no_body inside in
+    let body = read_next (ghost_body params t list) list olds bodies i d (length-map list (body_at params t)) inside so_far ∙ get_or-map (body_at params t) list i no_particle d inside in
     let light : g ≡ ghost_value params.sound (density_at params t list p) = ghost_is ∙ ap (ghost_value params.sound) (rho_of_due params t list ps i inside are is) in
-    let value : with_ghost (get_or bodies i no_body) g ≡ ghost_body params t list p = ap (λ b. with_ghost b g) body ∙ ap (body_of params t p) light ∙ sym (ghost_body_due params t list p is) in
-    written_more (ghost_body params t list) list olds bodies i no_particle (with_ghost (get_or bodies i no_body) g) (length-map list (body_at params t)) inside so_far value
+    let value : new ≡ ghost_body params t list p = new_is ∙ ap (λ b. with_ghost b g) body ∙ ap (body_of params t p) light ∙ sym (ghost_body_due params t list p is) in
+    written_more (ghost_body params t list) list olds bodies i no_particle new (length-map list (body_at params t)) inside so_far value
 
 pub ghost_left : (params : Params) (t : ℕ) (list ps : List Particle) (bodies : List Body) (i : ℕ) (due : Bool) → i < length list → bodies ≡ bodies_with_ghosts params t list i → ps ≡ map (with_density params t list) list
     → due ≡ is_due t (get_or ps i no_particle).bin → due ≡ false → bodies ≡ bodies_with_ghosts params t list (i + 1)
@@ -167,15 +164,15 @@ force_is params t list bodies i f inside are sum =
 -- it is kicked
 pub kick_given : (params : Params) (t : ℕ) (list ps : List Particle) (bodies : List Body) (i : ℕ) (f : List ℤ) (new : Particle) (due : Bool) → i < length list → ps ≡ kicked_particles params t list i → bodies ≡ map (ghost_body params t list) list
     → due ≡ is_due t (get_or ps i no_particle).bin → due ≡ true → f ≡ force_on (get_or bodies i no_body) bodies
-    → new ≡ kicked_with params t (get_or ps i no_particle) (get_or ps i no_particle).rho (get_or bodies i no_body).g f → set ps i new ≡ kicked_particles params t list (i + 1)
+    → new ≡ kicked_with params t (get_or ps i no_particle) (get_or ps i no_particle).rho (get_or bodies i no_body).pull.g f → set ps i new ≡ kicked_particles params t list (i + 1)
 kick_given params t list ps bodies i f new due inside so_far are asked holds sum is =
     let p = get_or list i no_particle in
     let rho = density_at params t list p in
     let here = dense_due params t list ps i due inside so_far asked holds in
-    let light = ap (λ (b : Body). b.g) (body_with_ghost params t list bodies i inside are) in
+    let light = ap (λ (b : Body). b.pull.g) (body_with_ghost params t list bodies i inside are) in
     let force = force_is params t list bodies i f inside are sum in
     let value : new ≡ next_particle params t list p =
-    is ∙ ap (λ (q : Particle). kicked_with params t q q.rho (get_or bodies i no_body).g f) here
+    is ∙ ap (λ (q : Particle). kicked_with params t q q.rho (get_or bodies i no_body).pull.g f) here
     ∙ ap (λ g. kicked_with params t (with_rho p rho) rho g f) light
     ∙ ap (kicked_with params t (with_rho p rho) rho (ghost_at params t list p)) force
     ∙ kicked_with_rho params t p rho (ghost_at params t list p) (force_at params t list p)

@@ -9,13 +9,14 @@ use Rattle.std.proofs.lemmas.List.Sums.{fold-append}
 use Rattle.std.proofs.lemmas.Nat.{pow_pos}
 use Rattle.std.proofs.Math.ListN.{get_or-eq_default}
 use Rattle.std.proofs.Math.Nat.{mul-mod_left, add-div_right}
+use Rattle.lists.proofs.Extremes.{fold_max-ge, All-fold_min, All-fold_max}
 use Rattle.sph_num.specs.declared.particle.Bounds.{Bounds}
 use Rattle.sph_num.specs.declared.particle.Params.{Params}
 use Rattle.sph_num.specs.declared.particle.Particle.{Particle}
 use Rattle.sph_num.specs.Bound.{least_of, greatest_of, bounds_of, greatest_momentum, greatest_force, momentum_limit}
 use Rattle.sph_num.specs.Ranges.{IsBody}
 use Rattle.sph_num.specs.Totals.{component}
-use Rattle.sph_num.proofs.Extremes.{fold_max-ge, All-fold_min, All-fold_max, AreBoundsInRange-bounds_of}
+use Rattle.sph_num.proofs.Extremes.{AreBoundsInRange-bounds_of}
 use Rattle.sph_deck.specs.declared.deck.Deck.{Deck}
 use Rattle.sph_deck.specs.Accepted.{AreAccepted}
 use Rattle.sph_bins.specs.Bins.{IsStepTick}

@@ -9,7 +9,7 @@ use Rattle.sph_num.specs.declared.particle.Params.{Params}
 use Rattle.sph_num.specs.declared.particle.Particle.{Particle}
 use Rattle.sph_num.specs.Bound.{bounds_of, greatest_momentum, greatest_force, greatest_ghost, momentum_limit}
 use Rattle.sph_num.specs.Motion.{IsMomentum}
-use Rattle.sph_num.specs.Ranges.{IsMass, IsLength, AreBoundsInRange}
+use Rattle.sph_num.specs.Ranges.{most_particles, IsMass, IsLength, AreBoundsInRange}
 use Rattle.sph_num.specs.Space.{IsPlace}
 use Rattle.sph_num.specs.Totals.{component}
 use Rattle.sph_num.proofs.Drifts.{IsPlace-position_of}
@@ -21,7 +21,7 @@ use Rattle.sph_bins.specs.InBounds.{IsWithin, IsAt, InBounds}
 use Rattle.sph_bins.specs.Kick.{density_at, ghost_at, force_at}
 use Rattle.sph_bins.proofs.Narrow.{density_at-ge, ghost_at-le, force_at-le}
 use Rattle.sph_bins.proofs.Room.{pow-le}
-use Rattle.sph_plain.specs.Bodies.{body_of, body_at, ghost_body, IsInRange}
+use Rattle.sph_plain.specs.inner.Bodies.{body_of, body_at, ghost_body, IsInRange}
 use Rattle.sph_plain.specs.Run.{before}
 use Rattle.sph_plain.proofs.Runs.{InBounds-before}
 
@@ -108,7 +108,7 @@ sound_of deck t list is tick same k d inside =
     subst (λ l. k < length l → IsSound deck.params t (before deck t) (get_or l k d)) (sym same) (sound deck t is tick k d) inside
 
 -- their number
-pub count-le : (deck : Deck) (t : ℕ) → AreAccepted deck.params deck.particles → IsStepTick deck.params t → length (before deck t) ≤ 32768
+pub count-le : (deck : Deck) (t : ℕ) → AreAccepted deck.params deck.particles → IsStepTick deck.params t → length (before deck t) ≤ most_particles
 count-le deck t is tick =
     let are = InBounds-before deck t is tick in
     omega (arith, are.count, are.bounds_in_range.count_high)

@@ -5,15 +5,15 @@ use Rattle.std.specs.Int.{w128}
 use Rattle.std.proofs.lemmas.Int.{ints, to_z-of_z, fits_signed_from_abs}
 use Rattle.std.proofs.lemmas.List.Elements.{All-map, All-from_get_or}
 use Rattle.std.proofs.lemmas.Nat.{mul-le}
+use Rattle.lists.proofs.Extremes.{fold_max-lt}
 use Rattle.sph_num.specs.Bound.{greatest_size}
-use Rattle.sph_num.specs.Force.{force_factor}
 use Rattle.sph_num.specs.Motion.{IsMomentum, pushed}
+use Rattle.sph_num.specs.Pull.{pair_factor}
 use Rattle.sph_num.specs.Space.{minimal, dist2}
 use Rattle.sph_num.specs.Totals.{component}
-use Rattle.sph_num.proofs.Extremes.{fold_max-lt}
 use Rattle.sph_bins.proofs.Room.{unsigned_abs-push}
 use Rattle.sph_plain.specs.declared.body.Body.{Body}
-use Rattle.sph_plain.specs.Bodies.{pulled}
+use Rattle.sph_plain.specs.inner.Bodies.{pulled}
 
 -- a number that fits is read back as it was written
 pub exact : (z : ℤ) → unsigned_abs z < 2 ^ 127 → to_z w128 (of_z w128 z) ≡ z
@@ -33,12 +33,12 @@ sum_fits x y small_x small_y =
     rw (first, second) (fits_signed_from_abs w128 (x +ℤ y) (omega (arith, ints)))
 
 -- the force of a pair added to a sum, axis by axis
-pub pulled-is : (total : List ℤ) (i j : Body) (factor r2 : ℕ) (x y z : ℤ) → r2 ≡ dist2 i.place j.place → factor ≡ force_factor (i.mass ∷ j.mass ∷ []) (i.h ∷ j.h ∷ []) (i.g ∷ j.g ∷ []) r2
+pub pulled-is : (total : List ℤ) (i j : Body) (factor r2 : ℕ) (x y z : ℤ) → r2 ≡ dist2 i.place j.place → factor ≡ pair_factor i.pull j.pull r2
     → x ≡ pos factor *ℤ minimal (get_or i.place 0 0) (get_or j.place 0 0) → y ≡ pos factor *ℤ minimal (get_or i.place 1 0) (get_or j.place 1 0) → z ≡ pos factor *ℤ minimal (get_or i.place 2 0) (get_or j.place 2 0)
     → (component total 0 +ℤ x) ∷ (component total 1 +ℤ y) ∷ (component total 2 +ℤ z) ∷ [] ≡ pulled total i j
 unfolding pulled
 pulled-is total i j factor r2 x y z distance is px py pz =
-    let whole : factor ≡ force_factor (i.mass ∷ j.mass ∷ []) (i.h ∷ j.h ∷ []) (i.g ∷ j.g ∷ []) (dist2 i.place j.place) = is ∙ ap (force_factor (i.mass ∷ j.mass ∷ []) (i.h ∷ j.h ∷ []) (i.g ∷ j.g ∷ [])) distance in
+    let whole : factor ≡ pair_factor i.pull j.pull (dist2 i.place j.place) = is ∙ ap (pair_factor i.pull j.pull) distance in
     let on = λ (axis : ℕ). ap (λ n. pos n *ℤ minimal (get_or i.place axis 0) (get_or j.place axis 0)) whole in
     rw (px ∙ on 0, py ∙ on 1, pz ∙ on 2) refl
 

@@ -1,3 +1,3 @@
-pub mod Bodies
 pub mod Laws
 pub mod Run
+pub mod inner

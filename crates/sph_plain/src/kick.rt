@@ -19,7 +19,7 @@ pub(crate) fn kick(params: &Params, t: u32, body: &Body, f: [i128; 3], particle:
     requires place { body.now.place ≡ place_at params.now t particle.old }
     requires force { IsMomentum f }
     requires momentum { IsMomentum particle.old.p }
-    ensures { particle.new ≡ kicked_with params.now t particle.old particle.old.rho body.now.g f }
+    ensures { particle.new ≡ kicked_with params.now t particle.old particle.old.rho body.now.pull.g f }
 {
     let bin = choose(t, greatest_size(&f), particle.mass, particle.h, params);
     let q = momentum(t, particle, f);
@@ -29,7 +29,7 @@ pub(crate) fn kick(params: &Params, t: u32, body: &Body, f: [i128; 3], particle:
         p: pushed(q, f, bin),
         q,
         f,
-        g: body.g,
+        g: body.pull.g(),
         bin,
         ..*particle
     };

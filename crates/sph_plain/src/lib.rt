@@ -12,4 +12,4 @@ mod tests;
 
 pub use initial::start;
 pub use laws::runs_stay_in_bounds;
-pub use step::plain_step;
+pub use step::{PlainSteps, plain_step};

@@ -24,8 +24,8 @@ graph_of_deck deck =
     graph_of (tree_of deck) (spans_of (tree_of deck) (all_due deck) (record { pairs = deck.params.pairs; slack = deck.params.slack })) (all_due deck) false
 
 -- the greatest level of a cell, and the greatest number of members of a leaf
-abbrev pub deepest_level : Made → ℕ
-deepest_level made = greatest_of (map (λ cell. cell.cube.level) (cells_of made))
+abbrev pub greatest_level : Made → ℕ
+greatest_level made = greatest_of (map (λ cell. cell.cube.level) (cells_of made))
 
 abbrev pub largest_leaf : Made → ℕ
 largest_leaf made = greatest_of (map (λ cell. length cell.members) (filter (is_leaf made) (cells_of made)))
@@ -50,7 +50,7 @@ line_of_tree particles made =
     entry (codes "particles ") particles
     ++ entry (codes " cells ") (length (cells_of made))
     ++ entry (codes " leaves ") (leaf_count made)
-    ++ entry (codes " deepest ") (deepest_level made)
+    ++ entry (codes " deepest ") (greatest_level made)
     ++ entry (codes " largest ") (largest_leaf made)
     ++ 10 ∷ []
 

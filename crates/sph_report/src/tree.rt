@@ -1,6 +1,6 @@
 //! The lines of a deck whose tree and graph are shown.
 ghost use Rattle.std.specs.Prelude.{◌≡◌, IfOk, length, map, string_bytes};
-ghost use Rattle.sph_report.specs.TreeLines.{deepest_level, edge_count, graph_of_deck, heaviest_weight, largest_leaf, line_of_graph, line_of_tree, tasks_of_kind, tree_lines, tree_of};
+ghost use Rattle.sph_report.specs.TreeLines.{greatest_level, edge_count, graph_of_deck, heaviest_weight, largest_leaf, line_of_graph, line_of_tree, tasks_of_kind, tree_lines, tree_of};
 
 use cell_tree::Tree;
 use pair_cover::{Limits, cover};
@@ -10,8 +10,8 @@ use std::alloc::{AllocError, Global};
 use task_graph::Graph;
 
 /// The greatest level of a cell.
-fn deepest_level(tree: &Tree) -> u32
-    ensures { result ≡ deepest_level tree.now }
+fn greatest_level(tree: &Tree) -> u32
+    ensures { result ≡ greatest_level tree.now }
 {
     let mut deepest = 0;
     for cell in 0..tree.cells() {
@@ -132,7 +132,7 @@ fn line_of_tree(alloc: Global, tree: &Tree) -> Result<String, AllocError>
     let particles = tree.points();
     let cells = tree.cells();
     let leaves = tree.leaves();
-    let deepest = deepest_level(tree);
+    let deepest = greatest_level(tree);
     let largest = largest_leaf(tree);
     format!(in alloc;
         "particles {particles} cells {cells} leaves {leaves} deepest {deepest} largest {largest}\n"

@@ -5,7 +5,7 @@ use Rattle.std.specs.List.{All}
 use Rattle.std.proofs.lemmas.List.Elements.{All-head, All-tail, All-from_get_or}
 use Rattle.sph_num.specs.declared.particle.Particle.{Particle}
 use Rattle.sph_num.specs.Motion.{IsMomentum}
-use Rattle.sph_num.specs.Ranges.{IsMass, IsLength}
+use Rattle.sph_num.specs.Ranges.{most_particles, IsMass, IsLength}
 use Rattle.sph_num.specs.Space.{IsPlace}
 use Rattle.sph_snap.specs.declared.snapshot.SnapRow.{SnapRow}
 use Rattle.sph_snap.specs.Snapshot.{IsRow, IsSnapshot, row_of, rows_from, snapshot_of}
@@ -47,7 +47,7 @@ IsRow-at t (p ∷ ps) are axes first (suc k) number d same inside =
     IsRow-at t ps (All-tail (IsKicked t) p ps are) (All-tail HasAxes p ps axes) (suc first) k number d (omega arith) (omega arith)
 
 -- the snapshot is in its ranges
-pub IsSnapshot-kicked : (t : ℕ) (ps : List Particle) → t ≤ 65536 → 1 ≤ length ps → length ps ≤ 32768 → All (IsKicked t) ps → All HasAxes ps → IsSnapshot (snapshot_of t ps)
+pub IsSnapshot-kicked : (t : ℕ) (ps : List Particle) → t ≤ 65536 → 1 ≤ length ps → length ps ≤ most_particles → All (IsKicked t) ps → All HasAxes ps → IsSnapshot (snapshot_of t ps)
 IsSnapshot-kicked t ps early some few are axes = record {
   tick = early;
   some = omega (arith, length-rows_from 1 ps);

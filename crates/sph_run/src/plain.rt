@@ -12,7 +12,7 @@ use sph_bins::next_tick;
 use sph_deck::Deck;
 use sph_edge::{Failed, Sink, write_whole};
 use sph_num::Particle;
-use sph_plain::{plain_step, start};
+use sph_plain::{PlainSteps, start};
 use sph_snap::{END, put_snapshot};
 use std::alloc::{AllocError, Global};
 
@@ -53,6 +53,9 @@ fn write_snapshots<O: Sink>(alloc: Global, deck: &Deck, out: &mut O) -> RunEnd
     ensures write_fault_output { result ≡ RunEnd.WriteFault → AppendsPrefix (O.held out.old) (O.held out.new) (deck_stream deck.now) }
     ensures memory { result ≡ RunEnd.Memory → AppendsSnapshots deck.now (O.held out.old) (O.held out.new) }
 {
+    let Ok(steps) = PlainSteps::new(alloc) else {
+        return RunEnd::Memory;
+    };
     let Ok(mut particles) = start(alloc, deck) else {
         return RunEnd::Memory;
     };
@@ -60,7 +63,7 @@ fn write_snapshots<O: Sink>(alloc: Global, deck: &Deck, out: &mut O) -> RunEnd
     let mut next = 0;
     for k in 0..snapshots {
         let tick = k * deck.params.every;
-        let Ok(bytes) = snapshot_bytes(alloc, deck, &mut particles, next, tick) else {
+        let Ok(bytes) = snapshot_bytes(&steps, alloc, deck, &mut particles, next, tick) else {
             return RunEnd::Memory;
         };
         let Ok(()) = write_whole(out, &bytes) else {
@@ -77,6 +80,7 @@ fn write_snapshots<O: Sink>(alloc: Global, deck: &Deck, out: &mut O) -> RunEnd
 /// Steps the list, which stands before the step at tick `next`, through the tick of a snapshot, and
 /// gives the bytes of the snapshot there.
 fn snapshot_bytes(
+    steps: &PlainSteps,
     alloc: Global,
     deck: &Deck,
     particles: &mut Vec<Particle>,
@@ -90,12 +94,13 @@ fn snapshot_bytes(
     ensures bytes { IfOk result (λ bytes. bytes.items ≡ spell (snapshot_at deck.now tick)) }
     ensures after { OnOk result (particles.new.items ≡ after deck.now tick) }
 {
-    step_through(alloc, deck, particles, next, tick)?;
+    step_through(steps, alloc, deck, particles, next, tick)?;
     put_snapshot(alloc, tick, particles)
 }
 
 /// Takes each step from tick `next`, before which the list stands, through tick `last`.
 fn step_through(
+    steps: &PlainSteps,
     alloc: Global,
     deck: &Deck,
     particles: &mut Vec<Particle>,
@@ -110,7 +115,7 @@ fn step_through(
 {
     let mut tick = next;
     while tick <= last {
-        plain_step(alloc, deck, particles, tick)?;
+        steps.step(alloc, deck, particles, tick)?;
         tick = next_tick(tick, deck.params.bin_min);
     }
     Ok(())

@@ -4,21 +4,17 @@ use Rattle.std.specs.Prelude.{slice_index, nat_lt, unsigned_abs, ℤ}
 use Rattle.std.specs.Int.{cast_signed, w128}
 use Rattle.std.proofs.lemmas.Bool.Decides.{nat_tests}
 use Rattle.std.proofs.lemmas.Int.{ints}
-use Rattle.std.proofs.lemmas.List.{get_or-drop}
 use Rattle.byteorder.specs.Endian.{little_from, twos_complement}
 use Rattle.byteorder.specs.Numbers.{little_from-lt}
 use Rattle.sph_snap.specs.declared.fault.SnapFault.TheVariants.{Range}
 use Rattle.sph_snap.specs.Fields.{field, between, is_component}
-use Rattle.sph_snap.specs.Parts.{AllFit, FailsFirst, number_in, signed_in, number_field, component_field, place_fields, place_in, momentum_fields, momentum_in}
+use Rattle.sph_snap.specs.inner.Parts.{AllFit, FailsFirst, number_in, signed_in, number_field, coordinate_field, component_field, place_fields, place_in, momentum_fields, momentum_in}
 use Rattle.sph_snap.proofs.Fit.{AllFit-one, FailsFirst-range, fit_both}
 use Rattle.sph_snap.proofs.Numerals.{little_from-drop}
 
 -- the list is one of bytes
 pub record AreBytes (bytes : List ℕ) : Type 0 where
   pub each : (i : ℕ) → slice_index bytes i < 256
-
-AreBytes-drop : (bytes : List ℕ) (at : ℕ) → AreBytes bytes → AreBytes (drop at bytes)
-AreBytes-drop bytes at h = record { each = λ i. let moved = get_or-drop at bytes i 0 in let small = h.each (at + i) in omega (arith, moved, small) }
 
 -- the number that stands first behind an offset
 pub number_behind : (bytes rest : List ℕ) (at n : ℕ) → rest ≡ drop at bytes → little_from 0 n rest ≡ little_from at n bytes
@@ -78,9 +74,9 @@ component_beyond bytes rest at q small long is read beyond =
     FailsFirst-range bytes (field at 16 is_component) long fits
 
 -- three coordinates
-pub place_fits : {bytes : List ℕ} {at x y z : ℕ} → AllFit bytes (number_field at 4 0 1048575) → x ≡ number_in bytes at 4
-    → AllFit bytes (number_field (at + 4) 4 0 1048575) → y ≡ number_in bytes (at + 4) 4
-    → AllFit bytes (number_field (at + 8) 4 0 1048575) → z ≡ number_in bytes (at + 8) 4 → AllFit bytes (place_fields at) × (x ∷ y ∷ z ∷ [] ≡ place_in bytes at)
+pub place_fits : {bytes : List ℕ} {at x y z : ℕ} → AllFit bytes (coordinate_field at) → x ≡ number_in bytes at 4
+    → AllFit bytes (coordinate_field (at + 4)) → y ≡ number_in bytes (at + 4) 4
+    → AllFit bytes (coordinate_field (at + 8)) → z ≡ number_in bytes (at + 8) 4 → AllFit bytes (place_fields at) × (x ∷ y ∷ z ∷ [] ≡ place_in bytes at)
 unfolding place_fields place_in
 place_fits p e q f r g = (fit_both p (fit_both q r), cc)
 

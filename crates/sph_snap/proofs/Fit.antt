@@ -8,7 +8,7 @@ use Rattle.byteorder.specs.Endian.{little_from}
 use Rattle.sph_snap.specs.declared.fault.SnapFault.{SnapFault}
 use Rattle.sph_snap.specs.declared.fault.SnapFault.TheVariants.{Memory, Range, Short}
 use Rattle.sph_snap.specs.Fields.{Field, field_fault, first_fault}
-use Rattle.sph_snap.specs.Parts.{AllFit, FailsFirst, Gives, GivesInRoom}
+use Rattle.sph_snap.specs.inner.Parts.{AllFit, FailsFirst, Gives, GivesInRoom}
 
 -- what stands first in two lists
 first-append : {X : Type 0} (xs ys : List X) → slice_get xs 0 ≡ None → slice_get (xs ++ ys) 0 ≡ slice_get ys 0

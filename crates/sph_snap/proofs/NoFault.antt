@@ -1,5 +1,5 @@
 -- Where a row or a snapshot in range is spelled, its fields have no fault.
-use Rattle.std.proofs.Common.{◌≡◌, ℕ, suc, ◌+◌, ◌*◌, ◌^◌, ◌<◌, ◌≤◌, Bool, true, eqb, ltb, None, List, [], ◌∷◌, ◌++◌, length, get_or, take, refl, sym, ap, ap₂, ◌∙◌, subst, arith, length-append, lt-ltb, eq-eqb}
+use Rattle.std.proofs.Common.{◌≡◌, ℕ, suc, ◌+◌, ◌*◌, ◌^◌, ◌<◌, ◌≤◌, Bool, true, eqb, ltb, None, List, [], ◌∷◌, ◌++◌, length, get_or, take, refl, sym, ap, ap₂, ◌∙◌, subst, arith, length-append, lt-ltb, eq-eqb, ◌-◌}
 use Rattle.std.specs.Prelude.{ℤ, unsigned_abs, slice_get}
 use Rattle.std.specs.Int.{cast_unsigned, w128}
 use Rattle.std.specs.List.{All, flat_map, filter_map, cons_option}
@@ -10,12 +10,14 @@ use Rattle.byteorder.specs.Endian.{little_from, little_bytes}
 use Rattle.byteorder.specs.Numbers.{little_number-reads_back, length-bytes_low_first}
 use Rattle.sph_snap.specs.declared.snapshot.SnapRow.{SnapRow}
 use Rattle.sph_snap.specs.declared.snapshot.Snapshot.{Snapshot}
-use Rattle.sph_snap.specs.Fields.{Field, field, between, is_component, field_fault, row_fields, rows_fields, snapshot_fields, first_fault}
+use Rattle.sph_snap.specs.Fields.{Field, field, between, is_component, field_fault, row_fields, rows_fields, snapshot_fields, first_fault, is_coordinate}
 use Rattle.sph_snap.specs.Snapshot.{IsRow, IsSnapshot, row_bytes, signed_bytes, snapshot_mark, spell}
 use Rattle.sph_snap.specs.Reads.{IsMarkAt}
 use Rattle.sph_snap.proofs.FieldsRead.{between-within}
 use Rattle.sph_snap.proofs.Pieces.{IsAt, IsAt-first, IsAt-second, IsAt-fits}
 use Rattle.sph_snap.proofs.Numerals.{little_from-drop, twos_complement-bits, bits-lt}
+use Rattle.sph_num.specs.Ranges.{most_particles}
+use Rattle.sph_num.specs.Space.{box_side}
 
 -- the number whose bytes stand at the offset
 pub number_at : (n x : ℕ) (bytes : List ℕ) (at : ℕ) → x < 256 ^ n → IsAt (little_bytes n x) bytes at → little_from at n bytes ≡ x
@@ -93,8 +95,8 @@ IsSound-row number at row is fits =
     let numbered = IsSound-number 4 row.number at (λ n. eqb n number) (omega arith) (omega (arith, is.number_is)) (eq-eqb row.number number is.number_is) in
     let mass = IsSound-between 4 row.mass (at + 4) 1 65536 (omega arith) (omega arith) is.mass.low is.mass.high in
     let h = IsSound-between 4 row.h (at + 8) 1024 131072 (omega arith) (omega arith) is.h.low is.h.high in
-    let place = IsSound-three (λ x. x < 2 ^ 20) (little_bytes 4) 4 (between 0 1048575)
-    (λ x k below. IsSound-between 4 x k 0 1048575 (omega arith) (omega arith) (omega arith) (omega arith))
+    let place = IsSound-three (λ x. x < box_side) (little_bytes 4) 4 is_coordinate
+    (λ x k below. IsSound-between 4 x k 0 (box_side - 1) (omega arith) (omega arith) (omega arith) (omega arith))
     row.x (at + 12) (at + 16) (at + 20) is.place.0 is.place.1 (omega arith) (omega arith) in
     let momentum = IsSound-three (λ z. unsigned_abs z < 2 ^ 96) signed_bytes 16 is_component IsSound-component
     row.q (at + 24) (at + 40) (at + 56) is.axes is.momentum (omega arith) (omega arith) in
@@ -126,7 +128,7 @@ abbrev head_bytes : Snapshot → List ℕ
 head_bytes s = snapshot_mark ++ little_bytes 4 s.tick ++ little_bytes 4 (length s.rows)
 
 -- the number of rows where a snapshot is spelled
-count_at : (s : Snapshot) (bytes : List ℕ) (at : ℕ) → length s.rows ≤ 32768 → IsAt (spell s) bytes at → little_from (at + 12) 4 bytes ≡ length s.rows
+count_at : (s : Snapshot) (bytes : List ℕ) (at : ℕ) → length s.rows ≤ most_particles → IsAt (spell s) bytes at → little_from (at + 12) 4 bytes ≡ length s.rows
 unfolding spell
 count_at s bytes at few is =
     number_at 4 (length s.rows) bytes (at + 12) (omega arith)
@@ -135,12 +137,12 @@ count_at s bytes at few is =
 -- the fields of a snapshot whose tick is high enough, but for their number
 pub IsSound-snapshot : (s : Snapshot) (at least : ℕ) → IsSnapshot s → least ≤ s.tick
     → IsSound (spell s) at (16 + 84 * length s.rows)
-    (field (at + 8) 4 (between least 65536) ∷ field (at + 12) 4 (between 1 32768) ∷ rows_fields (length s.rows) 1 (at + 16))
+    (field (at + 8) 4 (between least 65536) ∷ field (at + 12) 4 (between 1 most_particles) ∷ rows_fields (length s.rows) 1 (at + 16))
 unfolding spell
 IsSound-snapshot s at least is high =
     let few = is.few in
     let tick = IsSound-between 4 s.tick (at + 8) least 65536 (omega arith) (omega arith) high is.tick in
-    let count = IsSound-between 4 (length s.rows) (at + 12) 1 32768 (omega arith) (omega arith) is.some few in
+    let count = IsSound-between 4 (length s.rows) (at + 12) 1 most_particles (omega arith) (omega arith) is.some few in
     let rows = IsSound-rows s.rows 1 (at + 16) (λ k d h. let next : suc k ≡ 1 + k = omega arith in subst (λ n. IsRow n (get_or s.rows k d)) next (is.rows k d h)) (omega arith) in
     IsSound-append (IsSound-append (IsSound-append (IsSound-skip snapshot_mark at 8 refl) tick refl) count refl) rows refl
 

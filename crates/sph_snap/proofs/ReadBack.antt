@@ -9,11 +9,11 @@ use Rattle.std.proofs.lemmas.Bool.Decides.{nat_tests}
 use Rattle.std.proofs.lemmas.Int.{ints}
 use Rattle.std.proofs.lemmas.List.{length-drop, get_or_past, take-append-drop}
 use Rattle.std.proofs.lemmas.List.Elements.{All-drop, All-tail}
+use Rattle.lists.proofs.Elements.{All-three}
 use Rattle.byteorder.specs.Endian.{little_from, little_bytes, twos_complement}
 use Rattle.byteorder.specs.Numbers.{little_from-cons, little_from-lt}
-use Rattle.sph_num.proofs.Members.{All-three}
-use Rattle.sph_snap.specs.Fields.{Field, field, between, is_component, field_fault, row_fields, rows_fields, snapshot_fields, first_fault}
-use Rattle.sph_snap.specs.Parts.{number_in, row_in, rows_in, signed_in, snapshot_in}
+use Rattle.sph_snap.specs.Fields.{Field, field, between, is_component, field_fault, row_fields, rows_fields, snapshot_fields, first_fault, is_coordinate}
+use Rattle.sph_snap.specs.inner.Parts.{number_in, row_in, rows_in, signed_in, snapshot_in}
 use Rattle.sph_snap.specs.Reads.{IsMarkAt}
 use Rattle.sph_snap.specs.Snapshot.{IsRow, IsSnapshot, row_bytes, signed_bytes, snapshot_mark, spell}
 use Rattle.sph_snap.specs.declared.fault.SnapFault.{SnapFault}
@@ -22,6 +22,8 @@ use Rattle.sph_snap.specs.declared.snapshot.SnapRow.{SnapRow}
 use Rattle.sph_snap.specs.declared.snapshot.Snapshot.{Snapshot}
 use Rattle.sph_snap.proofs.Pieces.{IsAt, IsAt-append, IsAt-nil, IsAt-three}
 use Rattle.sph_snap.proofs.Numerals.{little_from-drop}
+use Rattle.sph_num.specs.Ranges.{most_particles}
+use Rattle.sph_num.specs.Space.{box_side}
 
 -- ---- bytes
 
@@ -149,8 +151,8 @@ range_of : (bytes : List ℕ) (at n least greatest : ℕ) → FitsAt bytes (fiel
 unfolding number_in
 range_of bytes at n least greatest fit = between-is least greatest (number_in bytes at n) fit.good
 
-coordinate_of : (bytes : List ℕ) (at n : ℕ) → FitsAt bytes (field at n (between 0 1048575)) → number_in bytes at n < 2 ^ 20
-coordinate_of bytes at n fit = let range = range_of bytes at n 0 1048575 fit in omega arith
+coordinate_of : (bytes : List ℕ) (at n : ℕ) → FitsAt bytes (field at n is_coordinate) → number_in bytes at n < box_side
+coordinate_of bytes at n fit = let range = range_of bytes at n 0 (box_side - 1) fit in omega arith
 
 -- the row of fields that fit is in its ranges
 pub IsRow-from_fields : (bytes : List ℕ) (number at : ℕ) → AllFitAt bytes (row_fields number at) → IsRow number (row_in bytes at)
@@ -168,7 +170,7 @@ IsRow-from_fields bytes number at fit =
       h = record { low = h.0; high = h.1 };
       place = (
         refl,
-        All-three (λ x. x < 2 ^ 20) (number_in bytes (at + 12) 4) (number_in bytes (at + 16) 4) (number_in bytes (at + 20) 4)
+        All-three (λ x. x < box_side) (number_in bytes (at + 12) 4) (number_in bytes (at + 16) 4) (number_in bytes (at + 20) 4)
             (coordinate_of bytes (at + 12) 4 place.0) (coordinate_of bytes (at + 16) 4 place.1.0) (coordinate_of bytes (at + 20) 4 place.1.1.0),
       );
       axes = refl;
@@ -245,13 +247,13 @@ IsSnapshot-from_fields : (bytes : List ℕ) (least at : ℕ) → AllFitAt bytes 
 unfolding snapshot_fields snapshot_in number_in
 IsSnapshot-from_fields bytes least at fit =
     let tick = range_of bytes (at + 8) 4 least 65536 fit.0 in
-    let count = range_of bytes (at + 12) 4 1 32768 fit.1.0 in
+    let count = range_of bytes (at + 12) 4 1 most_particles fit.1.0 in
     let n = number_in bytes (at + 12) 4 in
     let size = length-rows_in bytes n (at + 16) in
     record {
       tick = tick.1;
       some = subst (λ m. 1 ≤ m) (sym size) count.0;
-      few = subst (λ m. m ≤ 32768) (sym size) count.1;
+      few = subst (λ m. m ≤ most_particles) (sym size) count.1;
       rows = λ k d h. subst (λ m. IsRow m (get_or (rows_in bytes n (at + 16)) k d)) (one-add k)
           (rows_in_range bytes n 1 (at + 16) fit.1.1 k d (subst (λ m. k < m) size h));
     }

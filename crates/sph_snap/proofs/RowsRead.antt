@@ -1,13 +1,14 @@
 -- What is read at the fields of a row, and at rows one after the other.
 use Rattle.std.proofs.Common.{◌≡◌, ℕ, zero, suc, ◌+◌, ◌-◌, ◌*◌, ◌<◌, ◌≤◌, List, [], ◌∷◌, ◌++◌, refl, sym, ap, ◌∙◌, subst, arith, append_assoc, append-nil}
-use Rattle.std.specs.Prelude.{ℤ, ◌==◌}
+use Rattle.std.specs.Prelude.{ℤ, ◌==◌, Result}
+use Rattle.std.specs.Result.{IsErrAnd}
 use Rattle.std.proofs.lemmas.Bool.Decides.{nat_tests}
 use Rattle.byteorder.specs.Endian.{little_from}
 use Rattle.sph_snap.specs.declared.fault.SnapFault.{SnapFault}
 use Rattle.sph_snap.specs.declared.snapshot.SnapRow.{SnapRow}
 use Rattle.sph_snap.specs.Fields.{Field, field, between, field_fault, first_fault, row_fields, rows_fields}
-use Rattle.sph_snap.specs.Parts.{AllFit, FailsFirst, number_in, number_field, place_fields, place_in, momentum_fields, momentum_in, row_in, rows_in}
-use Rattle.sph_snap.proofs.Fit.{fails_behind, fails_here, fit_both}
+use Rattle.sph_snap.specs.inner.Parts.{AllFit, FailsFirst, Gives, number_in, number_field, place_fields, place_in, momentum_fields, momentum_in, row_in, rows_in}
+use Rattle.sph_snap.proofs.Fit.{Gives-fault, fails_behind, fails_here, fit_both}
 
 -- the fields of a row from each part on
 abbrev pub from_rho : ℕ → List Field
@@ -54,8 +55,10 @@ same_first bytes number at =
 AllFit-row : (bytes : List ℕ) (number at : ℕ) → AllFit bytes (from_number number at) → AllFit bytes (row_fields number at)
 AllFit-row bytes number at p = record { none = same_first bytes number at ∙ p.none }
 
-pub FailsFirst-row : (bytes : List ℕ) (number at : ℕ) (fault : SnapFault) → FailsFirst bytes (from_number number at) fault → FailsFirst bytes (row_fields number at) fault
-FailsFirst-row bytes number at fault p = record { first = same_first bytes number at ∙ p.first }
+-- what the exit of a `?` between them gives
+pub row_fails : (bytes : List ℕ) (number at : ℕ) (r : Result SnapRow SnapFault) (fault : SnapFault) → IsErrAnd r (λ y. y ≡ fault) → FailsFirst bytes (from_number number at) fault
+    → Gives bytes (row_fields number at) (row_in bytes at) r
+row_fails bytes number at r fault e p = Gives-fault bytes (row_fields number at) (row_in bytes at) r fault e (record { first = same_first bytes number at ∙ p.first })
 
 -- no part fails
 pub row_fits : (bytes : List ℕ) (number at n mass h : ℕ) (x : List ℕ) (q : List ℤ) (rho bin : ℕ)
@@ -109,9 +112,6 @@ rows_in-more bytes (suc i) at =
 pub record AreRowsRead (bytes : List ℕ) (at i : ℕ) (rows : List SnapRow) : Type 0 where
   pub fit : AllFit bytes (rows_fields i 1 at)
   pub are : rows ≡ rows_in bytes i at
-
-pub rows_none : (bytes : List ℕ) (at : ℕ) → AreRowsRead bytes at 0 []
-rows_none bytes at = record { fit = record { none = refl }; are = refl }
 
 pub rows_more : (bytes : List ℕ) (at i : ℕ) (rows next : List SnapRow) (row : SnapRow) → AreRowsRead bytes at i rows
     → AllFit bytes (row_fields (i + 1) (at + 84 * i)) → row ≡ row_in bytes (at + 84 * i) → next ≡ rows ++ row ∷ [] → AreRowsRead bytes at (i + 1) next

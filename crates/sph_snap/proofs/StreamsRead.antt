@@ -17,7 +17,7 @@ use Rattle.sph_snap.specs.declared.fault.SnapFault.{SnapFault}
 use Rattle.sph_snap.specs.declared.fault.SnapFault.TheVariants.{Magic, Memory, Range, Short, Trailing}
 use Rattle.sph_snap.specs.declared.snapshot.Snapshot.{Snapshot}
 use Rattle.sph_snap.specs.Fields.{Field, field_fault, first_fault, snapshot_fields}
-use Rattle.sph_snap.specs.Parts.{AllFit, EndFails, Ends, FailsFirst, snapshot_in}
+use Rattle.sph_snap.specs.inner.Parts.{AllFit, EndFails, Ends, FailsFirst, snapshot_in}
 use Rattle.sph_snap.specs.Reads.{AnswersStream, FailsAt, IsFieldsFault, IsMarkAt, IsStreamFault, least_tick}
 use Rattle.sph_snap.specs.Snapshot.{AreInOrder, IsSnapshot, IsStreamOf, snapshot_mark, spell}
 use Rattle.sph_snap.proofs.Differ.{just_one_fault, none_begins_another, rising_tail, streams_have_no_fault}

@@ -1,6 +1,8 @@
 -- The fields of a snapshot: where each one stands, how many bytes it has, and which numbers it may hold.
-use Rattle.std.specs.Prelude.{ℕ, zero, suc, ◌+◌, ◌^◌, Bool, ◌&&◌, ◌==◌, nat_le, nat_lt, List, [], ◌∷◌, ◌++◌, length, filter_map, slice_get, Option, Some, None, if◌then◌else◌, unsigned_abs}
+use Rattle.std.specs.Prelude.{ℕ, zero, suc, ◌+◌, ◌^◌, Bool, ◌&&◌, ◌==◌, nat_le, nat_lt, List, [], ◌∷◌, ◌++◌, length, filter_map, slice_get, Option, Some, None, if◌then◌else◌, unsigned_abs, ◌-◌}
 use Rattle.byteorder.specs.Endian.{little_from, twos_complement}
+use Rattle.sph_num.specs.Ranges.{most_particles}
+use Rattle.sph_num.specs.Space.{box_side}
 use Rattle.sph_snap.specs.declared.fault.SnapFault.{SnapFault}
 use Rattle.sph_snap.specs.declared.fault.SnapFault.TheVariants.{Short, Range}
 
@@ -17,6 +19,10 @@ field offset size fits = record { offset = offset; size = size; fits = fits }
 abbrev pub between : ℕ → ℕ → ℕ → Bool
 between least greatest n = nat_le least n && nat_le n greatest
 
+-- in the box
+abbrev pub is_coordinate : ℕ → Bool
+is_coordinate n = between 0 (box_side - 1) n
+
 -- in two's complement, of an absolute value below 2^96
 abbrev pub is_component : ℕ → Bool
 is_component n = nat_lt (unsigned_abs (twos_complement 16 n)) (2 ^ 96)
@@ -27,9 +33,9 @@ row_fields number at =
     field at 4 (λ n. n == number)
     ∷ field (at + 4) 4 (between 1 65536)
     ∷ field (at + 8) 4 (between 1024 131072)
-    ∷ field (at + 12) 4 (between 0 1048575)
-    ∷ field (at + 16) 4 (between 0 1048575)
-    ∷ field (at + 20) 4 (between 0 1048575)
+    ∷ field (at + 12) 4 is_coordinate
+    ∷ field (at + 16) 4 is_coordinate
+    ∷ field (at + 20) 4 is_coordinate
     ∷ field (at + 24) 16 is_component
     ∷ field (at + 40) 16 is_component
     ∷ field (at + 56) 16 is_component
@@ -46,7 +52,7 @@ rows_fields (suc count) number at = row_fields number at ++ rows_fields count (s
 unfoldable pub snapshot_fields : List ℕ → ℕ → ℕ → List Field
 snapshot_fields bytes least at =
     field (at + 8) 4 (between least 65536)
-    ∷ field (at + 12) 4 (between 1 32768)
+    ∷ field (at + 12) 4 (between 1 most_particles)
     ∷ rows_fields (little_from (at + 12) 4 bytes) 1 (at + 16)
 
 -- what is wrong with a field: it is cut off, or its number isn't one that it may hold

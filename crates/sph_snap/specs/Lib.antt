@@ -1,5 +1,5 @@
 pub mod Fields
 pub mod Laws
-pub mod Parts
 pub mod Reads
 pub mod Snapshot
+pub mod inner

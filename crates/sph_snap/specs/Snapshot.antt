@@ -4,7 +4,7 @@ use Rattle.std.specs.Int.{cast_unsigned, w128}
 use Rattle.std.specs.List.Sorted.{IsStrictlyIncreasing}
 use Rattle.byteorder.specs.Endian.{little_bytes}
 use Rattle.sph_num.specs.declared.particle.Particle.{Particle}
-use Rattle.sph_num.specs.Ranges.{IsMass, IsLength}
+use Rattle.sph_num.specs.Ranges.{IsMass, IsLength, most_particles}
 use Rattle.sph_num.specs.Space.{IsPlace}
 use Rattle.sph_snap.specs.declared.snapshot.SnapRow.{SnapRow}
 use Rattle.sph_snap.specs.declared.snapshot.Snapshot.{Snapshot}
@@ -46,7 +46,7 @@ pub record IsRow (number : ℕ) (row : SnapRow) : Type 0 where
 pub record IsSnapshot (snapshot : Snapshot) : Type 0 where
   pub tick : snapshot.tick ≤ 65536
   pub some : 1 ≤ length snapshot.rows
-  pub few : length snapshot.rows ≤ 32768
+  pub few : length snapshot.rows ≤ most_particles
   pub rows : (k : ℕ) (d : SnapRow) → k < length snapshot.rows → IsRow (suc k) (slice_index_or snapshot.rows k d)
 
 -- snapshots one after the other: each in its ranges, and their ticks rise

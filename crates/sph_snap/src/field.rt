@@ -1,12 +1,13 @@
 //! The fields of a snapshot, each read at its offset from the begin of the bytes.
-ghost use Rattle.std.specs.Prelude.{◌≡◌, ℕ, ◌+◌, ◌^◌, ◌<◌, ◌≤◌, length, drop, MatchResult};
-ghost use Rattle.sph_snap.specs.Parts.{Gives, component_field, momentum_fields, momentum_in, number_field, number_in, place_fields, place_in, signed_in};
+ghost use Rattle.std.specs.Prelude.{◌≡◌, ℕ, ◌+◌, ◌^◌, ◌<◌, ◌≤◌, length, drop, IfOk, MatchResult};
+ghost use Rattle.sph_snap.specs.inner.Parts.{Gives, component_field, momentum_fields, momentum_in, number_field, number_in, place_fields, place_in, signed_in};
 
 use crate::fault::SnapFault;
 use byteorder::{ByteOrder, LittleEndian};
+use sph_num::BOX_SIDE;
 
-/// The side of the box, less one.
-const LAST_PLACE: u32 = (1 << 20) - 1;
+/// The greatest coordinate.
+const LAST_PLACE: u32 = BOX_SIDE - 1;
 
 /// Each component of a momentum is of a lower absolute value.
 const COMPONENT_LIMIT: u128 = 1 << 96;
@@ -16,19 +17,25 @@ pub fn number_at(bytes: &[u8], at: usize, least: u32, greatest: u32) -> Result<u
     requires { at + 4 < 2 ^ 64 }
     ensures { Gives bytes.now (number_field at 4 least greatest) (number_in bytes.now at 4) result }
 {
-    let n = LittleEndian::read_u32(bytes_at(bytes, at, 4)?);
-    if n < least || n > greatest {
-        return Err(SnapFault::Range(at));
-    }
-    Ok(n)
+    let n = long_at(bytes, at, 4, u64::from(least), u64::from(greatest))?;
+    Ok(n as u32)
 }
 
-/// The number of eight bytes here, from the least to the greatest.
-pub fn long_at(bytes: &[u8], at: usize, least: u64, greatest: u64) -> Result<u64, SnapFault>
-    requires { at + 8 < 2 ^ 64 }
-    ensures { Gives bytes.now (number_field at 8 least greatest) (number_in bytes.now at 8) result }
+/// The number of so many bytes here, from the least to the greatest.
+pub fn long_at(
+    bytes: &[u8],
+    at: usize,
+    size: usize,
+    least: u64,
+    greatest: u64,
+) -> Result<u64, SnapFault>
+    requires some { 1 ≤ size }
+    requires few { size ≤ 8 }
+    requires fits { at + size < 2 ^ 64 }
+    ensures read { Gives bytes.now (number_field at size least greatest) (number_in bytes.now at size) result }
+    ensures high { IfOk result (λ n. n ≤ greatest) }
 {
-    let n = LittleEndian::read_u64(bytes_at(bytes, at, 8)?);
+    let n = LittleEndian::read_uint(bytes_at(bytes, at, size)?, size);
     if n < least || n > greatest {
         return Err(SnapFault::Range(at));
     }

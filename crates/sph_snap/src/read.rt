@@ -3,7 +3,7 @@ ghost use Rattle.std.specs.Prelude.{◌≡◌, ◌⊎◌, ◌↔◌, ℕ, ◌+�
 ghost use Rattle.sph_snap.specs.declared.snapshot.Snapshot.{Snapshot};
 ghost use Rattle.sph_snap.specs.declared.fault.SnapFault.{SnapFault};
 ghost use Rattle.sph_snap.specs.Fields.{snapshot_fields};
-ghost use Rattle.sph_snap.specs.Parts.{EndFails, Ends, GivesInRoom, snapshot_in};
+ghost use Rattle.sph_snap.specs.inner.Parts.{EndFails, Ends, GivesInRoom, snapshot_in};
 ghost use Rattle.sph_snap.specs.Reads.{AnswersStream, IsMarkAt, IsStreamFault};
 ghost use Rattle.sph_snap.specs.Snapshot.{IsStreamOf, snapshot_mark};
 
@@ -12,12 +12,13 @@ use crate::field::number_at;
 use crate::layout::{END, HEAD, MARK, ROW};
 use crate::row::rows_at;
 use crate::snapshot::{RowList, Snapshot};
+use sph_num::MOST_PARTICLES;
 use std::alloc::Global;
 
 /// No run has a later tick.
 const LAST_TICK: u32 = 1 << 16;
 
-const MOST_ROWS: u32 = 1 << 15;
+const MOST_ROWS: u32 = MOST_PARTICLES as u32;
 
 /// The snapshots of a stream, or the first place at which the bytes cease to be one.
 pub fn read_stream(alloc: Global, bytes: &[u8]) -> Result<Vec<Snapshot>, SnapFault>

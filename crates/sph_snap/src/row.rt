@@ -4,7 +4,7 @@ ghost use Rattle.std.specs.declared.alloc.Global.{Global};
 ghost use Rattle.std.specs.declared.vec.Vec.{Vec};
 ghost use Rattle.sph_snap.specs.declared.snapshot.SnapRow.{SnapRow};
 ghost use Rattle.sph_snap.specs.Fields.{row_fields, rows_fields};
-ghost use Rattle.sph_snap.specs.Parts.{Gives, GivesInRoom, row_in, rows_in};
+ghost use Rattle.sph_snap.specs.inner.Parts.{Gives, GivesInRoom, row_in, rows_in};
 
 use crate::fault::SnapFault;
 use crate::field::{long_at, momentum_at, number_at, place_at};
@@ -46,7 +46,7 @@ fn row_at(bytes: &[u8], number: u32, at: usize) -> Result<SnapRow, SnapFault>
         h: number_at(bytes, at + 8, 1 << 10, 1 << 17)?,
         x: place_at(bytes, at + 12)?,
         q: momentum_at(bytes, at + 24)?,
-        rho: long_at(bytes, at + 72, LEAST_RHO, GREATEST_RHO)?,
+        rho: long_at(bytes, at + 72, 8, LEAST_RHO, GREATEST_RHO)?,
         bin: number_at(bytes, at + 80, 0, 10)?,
     })
 }

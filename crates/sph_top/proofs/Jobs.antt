@@ -63,17 +63,6 @@ pub named_second : (words : List (String Global)) (word : String Global) (text :
 unfolding job_with
 named_second words word text found two is same found_is = named_with words word found two is (ap job_with (sym same) ∙ sym found_is)
 
--- words name one job at most
-pub NamesJob-unique : (words : List (String Global)) (a b : Job) → NamesJob words a → NamesJob words b → a ≡ b
-NamesJob-unique words a b p q =
-    let first = p.word in
-    let second = q.word in
-    let same : word_of a ≡ word_of b = cc in
-    let one = job_with-word_of a in
-    let other = job_with-word_of b in
-    let along = ap job_with same in
-    cc
-
 -- words that name a job aren't words that name none
 pub named_not_none : (words : List (String Global)) → NamesAJob words → NamesNone words → ⊥
 named_not_none words job none = none job.0 job.1

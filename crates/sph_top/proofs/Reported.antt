@@ -1,27 +1,16 @@
 -- What follows for the top call from what its answer rests on and from what came of its line.
-use Rattle.std.proofs.Common.{◌≡◌, ℕ, List, [], refl, sym, ap, ◌∙◌, subst, inl, inr, ◌⊎◌, append-nil}
-use Rattle.std.specs.Prelude.{Option, None, Some, String}
+use Rattle.std.proofs.Common.{◌≡◌, List, refl, sym, ◌∙◌, subst, inl, inr, ◌⊎◌}
+use Rattle.std.specs.Prelude.{String}
 use Rattle.std.specs.declared.alloc.Global.{Global}
-use Rattle.std.specs.Io.KnownBytes.{Appends, Keeps}
+use Rattle.std.specs.Io.KnownBytes.{Appends}
 use Rattle.sph_deck.specs.declared.fault.DeckFault.{DeckFault}
 use Rattle.sph_edge.specs.Causes.{Stayed}
 use Rattle.sph_top.specs.declared.status.Status.{Status}
 use Rattle.sph_top.specs.declared.status.Status.TheVariants.{Done, DeckRefused, WriteFault, NoMemory}
-use Rattle.sph_top.specs.Answers.{Seen, IsDone, AppendsSome, IsWithoutOutput, TellsWriteFault, Yields}
+use Rattle.sph_top.specs.Answers.{Seen, IsDone, AppendsSome, IsWithoutOutput, Rests, TellsWriteFault, Yields}
 use Rattle.sph_top.specs.Lines.{error_line}
-use Rattle.sph_top.specs.Steps.{IsTold, Rests, Reports}
-use Rattle.sph_top.proofs.Rest.{IsCaused-rests, AppendsSome-rests, NoMemory-refused, stayed_not_rose}
-
--- bytes to which nothing was appended are kept
-Keeps-nothing : (a b : Option (List ℕ)) → Appends a b [] → Keeps a b
-Keeps-nothing None b p = tt
-Keeps-nothing (Some x) None p = p
-Keeps-nothing (Some x) (Some y) p = p ∙ append-nil x
-
--- no line is written for Done
-quiet_line : error_line Done ≡ []
-unfolding error_line
-quiet_line = refl
+use Rattle.sph_top.specs.inner.Steps.{IsTold, Reports}
+use Rattle.sph_top.proofs.Rest.{AppendsSome-rests, NoMemory-refused, stayed_not_rose}
 
 -- the answer whose line was written: the one before it, or NoMemory where a deck was refused
 record WasSaid (status said result : Status) (err err' : Seen) : Type 0 where
@@ -56,20 +45,12 @@ module _ (status result : Status) (err err' : Seen) (reports : Reports status re
 
 -- What follows from the answer whose line was written.
 module _ (said result : Status) (err err' : Seen) (told : IsTold said result err err') where
-  -- Done was the answer before its line was written, and that is empty
-  quiet : result ≡ Done → (said ≡ Done) × Keeps err.bytes err'.bytes
-  quiet e = elim told [
-    | inl t ↦ let was = sym t.0 ∙ e in
-        (was, Keeps-nothing err.bytes err'.bytes (subst (Appends err.bytes err'.bytes) (ap error_line was ∙ quiet_line) t.1))
-    | inr t ↦ let no = t.1 in cc
-  ]
-
   module _ (words : List (String Global)) (source source' out out' : Seen) (rests : Rests said words source source' out out') where
-    done_said : result ≡ Done → IsDone words source source' out out' err err'
-    done_said e =
-        let q = quiet e in
-        let r = subst (λ s. Rests s words source source' out out') q.0 rests in
-        record { job = r.0; deck = r.1; read = r.2; output = r.3; quiet = q.1 }
+    done_said : result ≡ Done → IsDone words source source' out out'
+    done_said e = elim told [
+      | inl t ↦ subst (λ s. Rests s words source source' out out') (sym t.0 ∙ e) rests
+      | inr t ↦ let no = t.1 in cc
+    ]
 
     output_said : (IsWithoutOutput said → out' ≡ out) → result ≡ WriteFault → AppendsSome words source source' out out'
     output_said same e = elim told [
@@ -80,8 +61,8 @@ module _ (said result : Status) (err err' : Seen) (told : IsTold said result err
     line_said : result ≡ WriteFault → TellsWriteFault words source source' out out' err err'
     line_said e = elim told [
       | inl t ↦ let was = sym t.0 ∙ e in
-          inl ((subst (λ s. Rests s words source source' out out') was rests).3.0, subst (λ s. Appends err.bytes err'.bytes (error_line s)) was t.1)
-      | inr t ↦ inr (t.2, said, IsCaused-rests said words source source' out out' t.0 rests, t.3)
+          inl ((subst (λ s. Rests s words source source' out out') was rests).3, subst (λ s. Appends err.bytes err'.bytes (error_line s)) was t.1)
+      | inr t ↦ inr (t.2, said, t.0, rests, t.3)
     ]
 
 module _ (status result : Status) (err err' : Seen) (reports : Reports status result err err') (words : List (String Global)) (source source' out out' : Seen)
@@ -97,8 +78,8 @@ module _ (status result : Status) (err err' : Seen) (reports : Reports status re
         (NoMemory-refused e.0 words source source' out out' untouched refused, λ w. absurd w)
   ]
 
-  -- Done after its line, which is empty
-  pub done : result ≡ Done → IsDone words source source' out out' err err'
+  -- Done after its line, which is none
+  pub done : result ≡ Done → IsDone words source source' out out'
   done e =
       let s = WasSaid-reports status result err err' reports in
       done_said s.0 result err err' s.1.told words source source' out out' (Rests-said s.0 s.1).0 e

@@ -15,8 +15,8 @@ use Rattle.sph_edge.specs.Whole.{GaveTooMuch}
 use Rattle.sph_top.specs.declared.status.Status.{Status}
 use Rattle.sph_top.specs.declared.status.Status.TheVariants.{Done, DeckRefused, NotBuilt, ReadFault, WriteFault, NoMemory}
 use Rattle.sph_top.specs.declared.words.Job.{Job}
-use Rattle.sph_top.specs.Answers.{Seen, IsAcceptedDeck, WasRead, ReadsDeck, IsDeckRefused, IsCaused, AppendsSome, AppendsToAnEnd, IsWithoutOutput}
-use Rattle.sph_top.specs.Steps.{NamesItsKey, Rests}
+use Rattle.sph_top.specs.Answers.{Seen, IsAcceptedDeck, WasRead, ReadsDeck, IsDeckRefused, AppendsSome, AppendsToAnEnd, IsWithoutOutput, Rests}
+use Rattle.sph_top.specs.inner.Steps.{NamesItsKey}
 use Rattle.sph_top.specs.Words.{NamesAJob}
 use Rattle.sph_deck.proofs.FirstFaults.{IsFirstFault-unique, first_too_long}
 use Rattle.sph_top.proofs.NamedKeys.{NamesKey-stands}
@@ -45,16 +45,6 @@ GaveTooMuch-long : (limit : ℕ) (before after : Option (List ℕ)) (bytes : Lis
 GaveTooMuch-long limit before after bytes has gave =
     GaveTooMuch-long_of limit bytes gave.bytes after (subst (λ b. Consumes b after gave.bytes) has gave.gave) gave.past
 
--- the cause of an answer that isn't Done
-pub IsCaused-rests : (status : Status) (words : List (String Global)) (source source' out out' : Seen) → (status ≡ Done → ⊥)
-    → Rests status words source source' out out' → IsCaused status words source source' out out'
-IsCaused-rests Done words source source' out out' undone rests = absurd (undone refl)
-IsCaused-rests (DeckRefused fault) words source source' out out' undone rests = rests
-IsCaused-rests NotBuilt words source source' out out' undone rests = rests
-IsCaused-rests ReadFault words source source' out out' undone rests = rests
-IsCaused-rests WriteFault words source source' out out' undone rests = (rests.3.0, inr (rests.0, rests.1, rests.2, rests.3.1))
-IsCaused-rests NoMemory words source source' out out' undone rests = rests.1
-
 -- whole pieces of the output are some first bytes of it
 AppendsSome-to_an_end : (words : List (String Global)) (source source' out out' : Seen) → AppendsToAnEnd words source source' out out'
     → AppendsSome words source source' out out'
@@ -73,7 +63,7 @@ AppendsSome-rests Done words source source' out out' undone same rests = absurd 
 AppendsSome-rests (DeckRefused fault) words source source' out out' undone same rests = inl (Appends-same out out' (same tt))
 AppendsSome-rests NotBuilt words source source' out out' undone same rests = inl (Appends-same out out' (same tt))
 AppendsSome-rests ReadFault words source source' out out' undone same rests = inl (Appends-same out out' (same tt))
-AppendsSome-rests WriteFault words source source' out out' undone same rests = inr (rests.0, rests.1, rests.2, rests.3.1)
+AppendsSome-rests WriteFault words source source' out out' undone same rests = inr (rests.0, rests.1, rests.2, rests.4)
 AppendsSome-rests NoMemory words source source' out out' undone same rests = AppendsSome-to_an_end words source source' out out' rests.1
 
 -- a refused deck's job was named
@@ -117,7 +107,7 @@ module _ (words : List (String Global)) (source source' out out' : Seen) (job : 
   -- a text with a first fault is refused for it
   pub refused : (status : Status) → Rests status words source source' out out' → (fault : DeckFault) → IsFirstFault bytes fault
       → (status ≡ DeckRefused fault) ⊎ (status ≡ NoMemory)
-  refused Done rests fault first = absurd ((deck_of rests.0 rests.1 rests.2).accepted fault first.stands)
+  refused Done rests fault first = absurd ((deck_of rests.job rests.deck rests.read).accepted fault first.stands)
   refused (DeckRefused other) rests fault first = inl (ap DeckRefused (IsFirstFault-unique bytes other fault (fault_of other rests) first))
   refused NotBuilt rests fault first = absurd (named_not_none words job rests)
   refused ReadFault rests fault first = absurd (stayed_not_rose source.faults source'.faults stayed rests.1)
@@ -131,5 +121,5 @@ module _ (words : List (String Global)) (source source' out out' : Seen) (job : 
   job_done (DeckRefused fault) rests accepted kept = absurd (accepted fault (fault_of fault rests).stands)
   job_done NotBuilt rests accepted kept = absurd (named_not_none words job rests)
   job_done ReadFault rests accepted kept = absurd (stayed_not_rose source.faults source'.faults stayed rests.1)
-  job_done WriteFault rests accepted kept = absurd (stayed_not_rose out.faults out'.faults kept rests.3.0)
+  job_done WriteFault rests accepted kept = absurd (stayed_not_rose out.faults out'.faults kept rests.3)
   job_done NoMemory rests accepted kept = inr refl

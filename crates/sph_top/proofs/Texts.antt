@@ -8,8 +8,8 @@ use Rattle.sph_edge.specs.Bytes.{GaveAll}
 use Rattle.sph_top.specs.declared.status.Status.{Status}
 use Rattle.sph_top.specs.declared.status.Status.TheVariants.{Done, DeckRefused, NotBuilt, ReadFault, WriteFault, NoMemory}
 use Rattle.sph_top.specs.declared.words.Job.{Job}
-use Rattle.sph_top.specs.Answers.{Seen, IsAcceptedDeck, WasRead, ReadsDeck}
-use Rattle.sph_top.specs.Steps.{Writes, Follows, Rests}
+use Rattle.sph_top.specs.Answers.{Seen, IsAcceptedDeck, WasRead, ReadsDeck, Rests}
+use Rattle.sph_top.specs.inner.Steps.{Writes, Follows}
 use Rattle.sph_top.specs.Words.{NamesJob}
 
 -- an accepted deck is answered by what came of the job
@@ -32,12 +32,13 @@ module _ (job : Job) (words : List (String Global)) (source source' : Seen) (byt
   -- what is answered for the text rests on its being read
   Rests-follows_read : (status : Status) (out out' : Seen) → length bytes ≤ longest_text → Follows job bytes status out out'
       → Rests status words source source' out out'
-  Rests-follows_read Done out out' short follows = (job, follows.0, reads follows.0 follows.1, follows.2)
+  Rests-follows_read Done out out' short follows =
+      record { job = job; deck = follows.0; read = reads follows.0 follows.1; output = follows.2 }
   Rests-follows_read (DeckRefused fault) out out' short follows =
       inr (record { bytes = bytes; read = read; short = short; first = follows })
   Rests-follows_read NotBuilt out out' short follows = absurd follows
   Rests-follows_read ReadFault out out' short follows = absurd follows
-  Rests-follows_read WriteFault out out' short follows = (job, follows.0, reads follows.0 follows.1, follows.2)
+  Rests-follows_read WriteFault out out' short follows = (job, follows.0, reads follows.0 follows.1, follows.2.0, follows.2.1)
   Rests-follows_read NoMemory out out' short (inl none) = (read.job, inl none)
   Rests-follows_read NoMemory out out' short (inr some) = (read.job, inr (job, some.0, reads some.0 some.1, some.2))
 

@@ -1,7 +1,7 @@
 -- What each answer of the top call says of the words, of the bytes that came and of those that went.
-use Rattle.std.specs.Prelude.{◌≡◌, ℕ, ◌≤◌, ◌⊎◌, List, [], length, Option, String, ⊤}
+use Rattle.std.specs.Prelude.{◌≡◌, ◌≢◌, ℕ, ◌≤◌, ◌⊎◌, List, [], length, Option, String, ⊤}
 use Rattle.std.specs.declared.alloc.Global.{Global}
-use Rattle.std.specs.Io.KnownBytes.{Appends, Keeps}
+use Rattle.std.specs.Io.KnownBytes.{Appends}
 use Rattle.sph_deck.specs.declared.deck.Deck.{Deck}
 use Rattle.sph_deck.specs.declared.fault.DeckFault.{DeckFault}
 use Rattle.sph_deck.specs.declared.fault.DeckFault.TheVariants.{TooLong}
@@ -43,13 +43,12 @@ pub record ReadsDeck (words : List (String Global)) (source source' : Seen) (job
   pub read : WasRead words source source' bytes
   pub deck_is : IsAcceptedDeck bytes deck
 
--- Done: the whole input was read, the whole output was appended, and nothing was written on `err`
-pub record IsDone (words : List (String Global)) (source source' out out' err err' : Seen) : Type 0 where
+-- Done: the whole input was read, and the whole output was appended
+pub record IsDone (words : List (String Global)) (source source' out out' : Seen) : Type 0 where
   pub job : Job
   pub deck : Deck
   pub read : ReadsDeck words source source' job deck
   pub output : Appends out.bytes out'.bytes (output_of job deck)
-  pub quiet : Keeps err.bytes err'.bytes
 
 -- the deck is longer than a deck may be: no more was read than shows it
 pub record IsDeckTooLong (words : List (String Global)) (source source' : Seen) : Type 0 where
@@ -81,14 +80,15 @@ AppendsToAnEnd words source source' out out' =
     Appends out.bytes out'.bytes []
     ⊎ ((job : Job) × (deck : Deck) × ReadsDeck words source source' job deck × AppendsPieces job deck out.bytes out'.bytes)
 
--- what a refusal rests on: the words, the bytes that were read, or a count that rose
-abbrev pub IsCaused : Status → List (String Global) → Seen → Seen → Seen → Seen → Type 0
-IsCaused Done words source source' out out' = ⊥
-IsCaused (DeckRefused fault) words source source' out out' = IsDeckRefused fault words source source'
-IsCaused NotBuilt words source source' out out' = NamesNone words
-IsCaused ReadFault words source source' out out' = NamesAJob words × Rose source.faults source'.faults
-IsCaused WriteFault words source source' out out' = Rose out.faults out'.faults × AppendsSome words source source' out out'
-IsCaused NoMemory words source source' out out' = AppendsToAnEnd words source source' out out'
+-- what each answer rests on, before its line is written: the words, the bytes that came and those that went, or a count that rose
+abbrev pub Rests : Status → List (String Global) → Seen → Seen → Seen → Seen → Type 0
+Rests Done words source source' out out' = IsDone words source source' out out'
+Rests (DeckRefused fault) words source source' out out' = IsDeckRefused fault words source source'
+Rests NotBuilt words source source' out out' = NamesNone words
+Rests ReadFault words source source' out out' = NamesAJob words × Rose source.faults source'.faults
+Rests WriteFault words source source' out out' =
+    (job : Job) × (deck : Deck) × ReadsDeck words source source' job deck × Rose out.faults out'.faults × AppendsPrefix out.bytes out'.bytes (output_of job deck)
+Rests NoMemory words source source' out out' = NamesAJob words × AppendsToAnEnd words source source' out out'
 
 -- the answers that leave the output as it was
 abbrev pub IsWithoutOutput : Status → Type 0
@@ -98,11 +98,11 @@ IsWithoutOutput ReadFault = ⊤
 IsWithoutOutput _ = ⊥
 
 -- A write fault comes only where the count of a sink rose. Its whole line stands on `err`, unless `err` itself failed: then there
--- are some first bytes of that line, or of the line of the refusal that it replaced, which had its own cause.
+-- are some first bytes of that line, or of the line of the refusal that it replaced, which rests on something of its own.
 abbrev pub TellsWriteFault : List (String Global) → Seen → Seen → Seen → Seen → Seen → Seen → Type 0
 TellsWriteFault words source source' out out' err err' =
     (Rose out.faults out'.faults × Appends err.bytes err'.bytes (error_line WriteFault))
-    ⊎ (Rose err.faults err'.faults × (status : Status) × IsCaused status words source source' out out' × AppendsPrefix err.bytes err'.bytes (error_line status))
+    ⊎ (Rose err.faults err'.faults × (status : Status) × (status ≢ Done) × Rests status words source source' out out' × AppendsPrefix err.bytes err'.bytes (error_line status))
 
 -- the answer is the wanted one, unless memory ran out or `err` failed
 abbrev pub Yields : Status → Status → Seen → Seen → Type 0

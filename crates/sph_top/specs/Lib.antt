@@ -6,5 +6,5 @@ pub use Rattle.sph_report.specs.DeckLines
 pub mod Answers
 pub mod Lines
 pub mod Output
-pub mod Steps
 pub mod Words
+pub mod inner

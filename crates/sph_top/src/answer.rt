@@ -5,9 +5,8 @@ ghost use Rattle.sph_deck.specs.Faults.{IsAccepted};
 ghost use Rattle.sph_deck.specs.FirstFault.{IsFirstFault};
 ghost use Rattle.sph_deck.specs.declared.fault.DeckFault.{DeckFault};
 ghost use Rattle.sph_edge.specs.Causes.{Rose, Stayed};
-ghost use Rattle.sph_top.specs.Answers.{seen, IsDone, IsDeckRefused, AppendsSome, AppendsToAnEnd, IsWithoutOutput, TellsWriteFault, Yields};
+ghost use Rattle.sph_top.specs.Answers.{seen, IsDone, IsDeckRefused, AppendsSome, AppendsToAnEnd, IsWithoutOutput, Rests, TellsWriteFault, Yields};
 ghost use Rattle.sph_top.specs.Lines.{error_line};
-ghost use Rattle.sph_top.specs.Steps.{Rests};
 ghost use Rattle.sph_top.specs.Words.{NamesAJob, NamesNone};
 
 use crate::job::do_job;
@@ -32,9 +31,10 @@ pub fn swiftq<R: Threads + Sync, S: Source, O: Sink, E: Sink, G: Gate>(
     err: &mut E,
     _gate: &G,
 ) -> Status
-    // Done: the whole input was read, the whole output written, nothing on `err`.
+    // Done: the whole input was read, the whole output written, and `err` is as before.
     ensures done { result ≡ Status.Done → IsDone words.now (seen S.left S.faults source.old) (seen S.left S.faults source.new)
-        (seen O.held O.faults out.old) (seen O.held O.faults out.new) (seen E.held E.faults err.old) (seen E.held E.faults err.new) }
+        (seen O.held O.faults out.old) (seen O.held O.faults out.new) }
+    ensures err_untouched { result ≡ Status.Done → err.new ≡ err.old }
 
     // A deck is refused exactly where it has a fault, and for its first.
     ensures deck_refused { (fault : DeckFault) → result ≡ Status.DeckRefused fault
@@ -59,7 +59,6 @@ pub fn swiftq<R: Threads + Sync, S: Source, O: Sink, E: Sink, G: Gate>(
     ensures no_memory { result ≡ Status.NoMemory → AppendsToAnEnd words.now
         (seen S.left S.faults source.old) (seen S.left S.faults source.new) (seen O.held O.faults out.old) (seen O.held O.faults out.new) }
     ensures output_untouched { IsWithoutOutput result → out.new ≡ out.old }
-    ensures err_untouched { result ≡ Status.Done → err.new ≡ err.old }
     ensures error_line { (result ≡ Status.WriteFault → ⊥) → Appends (E.held err.old) (E.held err.new) (error_line result) }
     ensures error_line_of_write_fault { result ≡ Status.WriteFault → TellsWriteFault words.now
         (seen S.left S.faults source.old) (seen S.left S.faults source.new) (seen O.held O.faults out.old) (seen O.held O.faults out.new)

@@ -2,7 +2,7 @@
 ghost use Rattle.std.specs.Prelude.{◌≡◌, IfOk};
 ghost use Rattle.sph_top.specs.Answers.{seen, IsWithoutOutput};
 ghost use Rattle.sph_top.specs.Output.{output_of};
-ghost use Rattle.sph_top.specs.Steps.{Follows, Writes};
+ghost use Rattle.sph_top.specs.inner.Steps.{Follows, Writes};
 
 use crate::status::Status;
 use crate::words::Job;

@@ -4,7 +4,7 @@ ghost use Rattle.sph_deck.specs.declared.fault.DeckFault.{DeckFault};
 ghost use Rattle.sph_report.specs.DeckLines.{NamesKey};
 ghost use Rattle.sph_top.specs.Answers.{seen};
 ghost use Rattle.sph_top.specs.Lines.{error_line};
-ghost use Rattle.sph_top.specs.Steps.{IsTold, NamesItsKey, Reports};
+ghost use Rattle.sph_top.specs.inner.Steps.{IsTold, NamesItsKey, Reports};
 
 use crate::status::Status;
 use sph_deck::DeckFault;

@@ -20,7 +20,7 @@ struct Worked {
 }
 
 /// A particle at rest of mass and smoothing length 1024.
-const REST: Body = Body {
+pub(crate) const REST: Body = Body {
     mass: 1_024,
     h: 1_024,
     x: 0,

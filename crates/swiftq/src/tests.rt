@@ -117,6 +117,15 @@ pub(crate) struct Outcome {
     pub err: MemorySink,
 }
 
+/// The program's name and the job's word.
+pub(crate) fn words_for(alloc: Global, job: &str) -> Result<Vec<String>, AllocError> {
+    let words = vec![in alloc;
+        String::from_str(alloc, "swiftq")?,
+        String::from_str(alloc, job)?,
+    ]?;
+    Ok(words)
+}
+
 fn run<R: Threads + Sync>(
     rt: &R,
     alloc: Global,
@@ -125,10 +134,7 @@ fn run<R: Threads + Sync>(
     mut out: MemorySink,
     mut err: MemorySink,
 ) -> Result<Outcome, AllocError> {
-    let words = vec![in alloc;
-        String::from_str(alloc, "swiftq")?,
-        String::from_str(alloc, job)?,
-    ]?;
+    let words = words_for(alloc, job)?;
     let status = swiftq(
         rt,
         alloc,

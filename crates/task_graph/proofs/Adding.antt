@@ -3,7 +3,7 @@ use Rattle.std.proofs.Common.{◌≡◌, ℕ, ◌+◌, ◌<◌, ◌≤◌, ◌^�
 use Rattle.std.proofs.lemmas.List.{append-nil, length-map, length-replicate, length-take-le, map_more, replicate_more}
 use Rattle.task_weight.specs.Edges.{AreStarts, edges_of}
 use Rattle.task_weight.proofs.Starts.{AreStarts-add, edges_of-add, length-edges_of}
-use Rattle.task_graph.specs.Parts.{AddsLists}
+use Rattle.task_graph.specs.inner.Parts.{AddsLists}
 
 -- one more list, whose numbers stand last
 pub AddsLists-one : (starts ends starts' ends' starts'' ends'' numbers : List ℕ) (lists : List (List ℕ)) → AddsLists starts ends starts' ends' lists → length starts' < 2 ^ 32

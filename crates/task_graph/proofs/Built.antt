@@ -7,7 +7,7 @@ use Rattle.cell_tree.specs.Tree.{Made}
 use Rattle.task_weight.specs.Edges.{AreForward, AreRising}
 use Rattle.task_graph.specs.declared.task.Task.{Task}
 use Rattle.task_graph.specs.Graph.{edges_between}
-use Rattle.task_graph.specs.Parts.{AreEdgeLists}
+use Rattle.task_graph.specs.inner.Parts.{AreEdgeLists}
 use Rattle.task_graph.specs.Tasks.{cost_of, tasks_of}
 use Rattle.task_graph.proofs.EdgeLists.{edges_from_lists}
 use Rattle.task_graph.proofs.Forward.{forward, length-edges_between, rising_edges}

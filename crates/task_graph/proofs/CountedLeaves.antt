@@ -4,13 +4,13 @@ use Rattle.std.specs.List.{range_with_len}
 use Rattle.std.proofs.lemmas.List.FromFn.{get_or-range_with_len, length-range_with_len}
 use Rattle.cell_tree.specs.Due.{AreDueBefore}
 use Rattle.cell_tree.specs.Spans.{leaf_cells}
-use Rattle.cell_tree.specs.Tree.{Made, AreLeavesBelow, cell_at, leaf_count}
-use Rattle.cell_tree.proofs.LeafCells.{IsLeafCell-at, length-leaf_cells}
+use Rattle.cell_tree.specs.Tree.{Made, AreLeavesBelow, leaf_count}
+use Rattle.cell_tree.proofs.LeafCells.{length-leaf_cells}
 use Rattle.cell_tree.proofs.DueLeaves.{counts_rise}
-use Rattle.task_graph.specs.LeafLists.{AreCountsOf, AreInCell}
+use Rattle.task_graph.specs.inner.LeafLists.{AreCountsOf, AreInCell}
 use Rattle.task_graph.specs.Tasks.{due_cells}
 use Rattle.task_graph.proofs.DueCounts.{counts_last, counts_most, due_inside, due_passes}
-use Rattle.task_graph.proofs.Lying.{CubeContains-from_test, test_from_CubeContains}
+use Rattle.task_graph.proofs.Touching.{in_range_from_lies, lies_from_in_range}
 
 -- the counts of leaves with a due member tell of those
 pub AreCountsOf-due : (made : Made) (due : List Bool) (before : List ℕ) → AreDueBefore made due before → AreCountsOf made (due_cells made due) before
@@ -34,13 +34,12 @@ module _ (made : Made) where
   all_in_cell cell from to below =
       let some = below.some in
       let most = below.within in
-      let at = λ (k : ℕ). get_or (leaf_cells made) k 0 in
       let long = length-leaf_cells made in
       record {
         ordered = omega arith;
         within = omega arith;
-        inside = λ k l t. below.outside k (at k) (IsLeafCell-at made k 0 (omega arith)) (CubeContains-from_test (cell_at made cell).cube (cell_at made (at k)).cube t);
-        passes = λ k low high. test_from_CubeContains (cell_at made cell).cube (cell_at made (at k)).cube (below.inside k (at k) (IsLeafCell-at made k 0 (omega arith)) low high);
+        inside = λ k l t. in_range_from_lies made cell from to k below (omega arith) t;
+        passes = λ k low high. lies_from_in_range made cell from to k below low high;
       }
 
   -- the numbers from 0 on count all leaves

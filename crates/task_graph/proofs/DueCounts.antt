@@ -2,17 +2,18 @@
 use Rattle.std.proofs.Common.{◌≡◌, ℕ, zero, suc, ◌+◌, ◌-◌, ◌<◌, ◌≤◌, Bool, true, if◌then◌else◌, cond, List, ◌++◌, map, count_by, length, get_or, take, sym, ap, ◌∙◌, subst, ◌⊎◌, inl, inr, Some, None, arith}
 use Rattle.std.proofs.lemmas.Bool.{cases_lt, or_cases, or_left, or_right, false≢true}
 use Rattle.std.proofs.lemmas.List.{map-append, take_all}
-use Rattle.std.proofs.lemmas.List.Sums.{count_by-le-length, length-filter, sum_by_more}
+use Rattle.std.proofs.lemmas.List.Sums.{length-filter, sum_by_more}
+use Rattle.std.specs.List.{range_with_len}
+use Rattle.lists.proofs.Ranges.{map_add-range}
+use Rattle.lists.proofs.Rising.{filter_range, filter_ranges}
 use Rattle.cell_tree.specs.declared.tree.Span.{Span}
 use Rattle.cell_tree.specs.Due.{has_due, AreDueBefore}
 use Rattle.cell_tree.specs.Spans.{IsOtherCell, IsSpan, leaf_cells}
-use Rattle.cell_tree.specs.Tree.{Made, cell_at, leaf_count, numbers_from, AreLeavesBelow, IsLeafCell}
+use Rattle.cell_tree.specs.Tree.{Made, leaf_count, AreLeavesBelow, IsLeafCell, lies_in}
 use Rattle.cell_tree.proofs.DueLeaves.{counts_rise}
 use Rattle.cell_tree.proofs.LeafCells.{filter_place, get_or-leaf_cells, IsLeafCell-at, length-leaf_cells, passes_after, ranges_apart}
-use Rattle.task_graph.specs.Joined.{counted_between, dues_below}
-use Rattle.task_graph.specs.Tasks.{due_cells, is_below_span, lies_in, lies_in_some}
-use Rattle.task_graph.proofs.Lying.{CubeContains-from_test, test_from_CubeContains}
-use Rattle.task_graph.proofs.Ranges.{filter_range, filter_ranges, map-numbers_from}
+use Rattle.task_graph.specs.inner.Joined.{counted_between, dues_below}
+use Rattle.task_graph.specs.Tasks.{due_cells, is_below_span, lies_in_some}
 
 -- a leaf with a due member, before which there are so many
 pub record IsDueLeaf (made : Made) (due : List Bool) (before : List ℕ) (number : ℕ) : Type 0 where
@@ -21,12 +22,6 @@ pub record IsDueLeaf (made : Made) (due : List Bool) (before : List ℕ) (number
   pub is : IsLeafCell made leaf (get_or (due_cells made due) number 0)
   pub count : get_or before leaf 0 ≡ number
   pub next : get_or before (leaf + 1) 0 ≡ number + 1
-
--- no more leaves have a due member than there are
-pub dues_most : (made : Made) (due : List Bool) → length (due_cells made due) ≤ leaf_count made
-dues_most made due =
-    let most = count_by-le-length (has_due made due) (leaf_cells made) in
-    omega (arith, length-filter (has_due made due) (leaf_cells made), length-leaf_cells made)
 
 due_adds : (n number : ℕ) (passes : Bool) → n ≡ number → passes ≡ true → n + (if passes then 1 else 0) ≡ number + 1
 due_adds n number passes e t = rw t (ap (λ k. k + 1) e)
@@ -82,7 +77,7 @@ module _ (made : Made) (due : List Bool) (before : List ℕ) (are : AreDueBefore
     pub due_inside : (number : ℕ) → number < length (due_cells made due) → lies_in made cell (get_or (due_cells made due) number 0) ≡ true → (get_or before from 0 ≤ number) × (number < get_or before to 0)
     due_inside number l t =
         let w = due_leaf number l in
-        let r = below.outside w.leaf (get_or (due_cells made due) number 0) w.is (CubeContains-from_test (cell_at made cell).cube (cell_at made (get_or (due_cells made due) number 0)).cube t) in
+        let r = below.outside w.leaf (get_or (due_cells made due) number 0) w.is t in
         let within = below.within in
         let low = counts_rise made due before are from w.leaf r.0 (omega (arith, w.below)) in
         let high = counts_rise made due before are (w.leaf + 1) to (omega (arith, r.1)) within in
@@ -102,13 +97,13 @@ module _ (made : Made) (due : List Bool) (before : List ℕ) (are : AreDueBefore
           | inl m ↦ m
           | inr m ↦ let h = counts_rise made due before are to w.leaf m (omega arith) in absurd (omega (arith, w.count))
         ] in
-        test_from_CubeContains (cell_at made cell).cube (cell_at made (get_or (due_cells made due) number 0)).cube (below.inside w.leaf (get_or (due_cells made due) number 0) w.is a b)
+        below.inside w.leaf (get_or (due_cells made due) number 0) w.is a b
 
   -- numbers counted from the first one on
-  counted_is : (first from to : ℕ) → counted_between before first from to ≡ map (λ i. first + i) (numbers_from (get_or before from 0) (get_or before to 0 - get_or before from 0))
+  counted_is : (first from to : ℕ) → counted_between before first from to ≡ map (λ i. first + i) (range_with_len (get_or before from 0) (get_or before to 0 - get_or before from 0))
   counted_is first from to =
       let e : first + get_or before to 0 - (first + get_or before from 0) ≡ get_or before to 0 - get_or before from 0 = omega arith in
-      ap (numbers_from (first + get_or before from 0)) e ∙ sym (map-numbers_from first (get_or before from 0) (get_or before to 0 - get_or before from 0))
+      ap (range_with_len (first + get_or before from 0)) e ∙ sym (map_add-range first (get_or before from 0) (get_or before to 0 - get_or before from 0))
 
   -- the leaves with a due member below a span's one cell
   pub counted_below_one : (span : Span) (first from to : ℕ) → span.second ≡ None → AreLeavesBelow made span.first from to → counted_between before first from to ≡ dues_below made due first span
@@ -132,8 +127,8 @@ module _ (made : Made) (due : List Bool) (before : List ℕ) (are : AreDueBefore
       → ((k : ℕ) → k < length (due_cells made due) → get_or before from' 0 ≤ k → k < get_or before to' 0 → is_below_span made span (get_or (due_cells made due) k 0) ≡ true)
       → counted_between before first from to ++ counted_between before first from' to' ≡ dues_below made due first span
   counted_apart span first from to from' to' after rises within inside passes passes' =
-      let low = numbers_from (get_or before from 0) (get_or before to 0 - get_or before from 0) in
-      let high = numbers_from (get_or before from' 0) (get_or before to' 0 - get_or before from' 0) in
+      let low = range_with_len (get_or before from 0) (get_or before to 0 - get_or before from 0) in
+      let high = range_with_len (get_or before from' 0) (get_or before to' 0 - get_or before from' 0) in
       let is = filter_ranges (λ k. is_below_span made span (get_or (due_cells made due) k 0)) (length (due_cells made due)) (get_or before from 0) (get_or before to 0) (get_or before from' 0) (get_or before to' 0)
       (counts_rise made due before are to from' after (omega arith)) (counts_rise made due before are from' to' rises within) (counts_most to' within) inside passes passes' in
       ap (λ ks. ks ++ counted_between before first from' to') (counted_is first from to)

@@ -7,12 +7,12 @@ use Rattle.std.proofs.lemmas.List.{get_or_default}
 use Rattle.std.proofs.lemmas.List.Elements.{All-take}
 use Rattle.std.proofs.lemmas.List.Kept.{AllPairs-from_increasing}
 use Rattle.std.proofs.lemmas.List.Sums.{sum_by_more_le, sum_by-le}
-use Rattle.cell_tree.proofs.Rising.{count_one}
+use Rattle.lists.proofs.Rising.{count_one}
 use Rattle.task_weight.specs.Paths.{after_of}
 use Rattle.task_graph.specs.Graph.{edges_into}
 
 -- a number stands in a rising list at most once
-once : (tasks : List ℕ) → IsStrictlyIncreasing tasks → (task : ℕ) → count_by (λ after. eqb after task) tasks ≤ 1
+pub once : (tasks : List ℕ) → IsStrictlyIncreasing tasks → (task : ℕ) → count_by (λ after. eqb after task) tasks ≤ 1
 once tasks rising task =
     count_one (λ after. eqb after task) tasks (AllPairs-from_increasing tasks rising) (λ x y _ _ p q. eqb-true x task p ∙ sym (eqb-true y task q))
 

@@ -1,21 +1,23 @@
 -- The lists of a graph, kind by kind, are the edges between its tasks.
 use Rattle.std.proofs.Common.{◌≡◌, ℕ, ◌+◌, Bool, List, [], ◌++◌, Contains, length, map, replicate, slice_get, Some, refl, sym, ap, ◌∙◌, subst}
 use Rattle.std.proofs.lemmas.List.{length-replicate, get_or-replicate}
+use Rattle.std.specs.List.{range_with_len}
+use Rattle.lists.proofs.Ranges.{by_numbers}
+use Rattle.lists.proofs.Places.{element_at}
 use Rattle.sph_num.specs.declared.kind.Kind.{Kind}
 use Rattle.sph_num.specs.declared.kind.Kind.TheVariants.{Drift, Density, Ghost, Force, Kick}
 use Rattle.cell_tree.specs.declared.tree.Span.{Span}
 use Rattle.cell_tree.specs.Spans.{leaf_cells}
-use Rattle.cell_tree.specs.Tree.{Made, numbers_from}
+use Rattle.cell_tree.specs.Tree.{Made}
 use Rattle.task_graph.specs.declared.task.Task.{Task}
 use Rattle.task_graph.specs.Graph.{edges_between, successors_of}
-use Rattle.task_graph.specs.Parts.{AreEdgeLists, AreJoined, has_above}
+use Rattle.task_graph.specs.inner.Parts.{AreEdgeLists, AreJoined, has_above}
 use Rattle.task_graph.specs.Tasks.{cell_task, span_task, drifting_leaves, due_cells, is_below_span, tasks_of}
 use Rattle.task_graph.proofs.KindOrder.{only_densities, only_ghosts, only_forces, only_kicks, none_after_kicks}
-use Rattle.task_graph.proofs.OnCells.{drifting_is_leaf, due_is_leaf}
+use Rattle.task_graph.proofs.OnSpans.{drifting_is_leaf, due_is_leaf}
 use Rattle.task_graph.proofs.Segments.{InSegment, all_segments, in_segment, stands_at, length-all_segments}
 use Rattle.task_graph.proofs.Touching.{leaf_shares, shares_leaf}
-use Rattle.task_graph.proofs.Places.{element_at}
-use Rattle.task_graph.proofs.NumberedLists.{by_numbers, five_parts}
+use Rattle.task_graph.proofs.NumberedLists.{five_parts}
 use Rattle.task_graph.proofs.Links.{IsLink, linked_lists, none_wait}
 
 module _ (made : Made) (drifts : List ℕ) (spans : List Span) (dues : List ℕ) (drifts_are_leaves : (cell : ℕ) → Contains drifts cell → Contains (leaf_cells made) cell) (dues_are_leaves : (cell : ℕ) → Contains dues cell → Contains (leaf_cells made) cell) where
@@ -58,7 +60,7 @@ module _ (made : Made) (drifts : List ℕ) (spans : List Span) (dues : List ℕ)
   }
 
   -- the lists of the kicks are empty
-  kick_lists : replicate (length dues) [] ≡ map (successors_of made tasks) (numbers_from (length drifts + length spans + length dues + length spans) (length dues))
+  kick_lists : replicate (length dues) [] ≡ map (successors_of made tasks) (range_with_len (length drifts + length spans + length dues + length spans) (length dues))
   kick_lists =
       let first = length drifts + length spans + length dues + length spans in
       by_numbers (successors_of made tasks) [] (replicate (length dues) []) first (length dues) (length-replicate (length dues) [])
@@ -78,7 +80,7 @@ module _ (made : Made) (drifts : List ℕ) (spans : List Span) (dues : List ℕ)
       (linked_lists made tasks (has_above made) (cell_task Ghost) (span_task Force) dues spans (length drifts + length spans) (length drifts + length spans + length dues) ghost_link zs r)
       (linked_lists made tasks (is_below_span made) (span_task Force) (cell_task Kick) spans dues (length drifts + length spans + length dues) (length drifts + length spans + length dues + length spans) force_link us s)
       kick_lists
-      ∙ ap (λ n. map (successors_of made tasks) (numbers_from 0 n)) (sym (length-all_segments drifts spans dues))
+      ∙ ap (λ n. map (successors_of made tasks) (range_with_len 0 n)) (sym (length-all_segments drifts spans dues))
 
 -- lists that give the edges kind by kind are the edges between the tasks
 pub edges_from_lists : (made : Made) (spans : List Span) (due : List Bool) (drift : Bool) (successors : List (List ℕ)) → AreEdgeLists made spans due drift successors → successors ≡ edges_between made (tasks_of made spans due drift)

@@ -5,17 +5,20 @@ use Rattle.std.proofs.lemmas.Bool.{and_parts, false≢true}
 use Rattle.std.proofs.lemmas.List.{length-map, get_or-map}
 use Rattle.std.proofs.lemmas.List.Kept.{IsStrictlyIncreasing-filter}
 use Rattle.std.proofs.lemmas.Option.{slice_get_within, slice_get-get_or}
-use Rattle.sph_num.proofs.Members.{Contains-from_filter, passes_from_filter}
+use Rattle.std.specs.List.{range_with_len}
+use Rattle.std.proofs.lemmas.List.FromFn.{length-range_with_len, get_or-range_with_len}
+use Rattle.lists.proofs.Rising.{Rises-range, IsStrictlyIncreasing-from_Rises}
+use Rattle.lists.proofs.Ranges.{below_from_numbers}
+use Rattle.lists.proofs.Elements.{Contains-from_filter, passes_from_filter}
 use Rattle.sph_num.specs.declared.kind.Kind.{Kind}
 use Rattle.sph_num.specs.declared.kind.Kind.TheVariants.{Drift, Density, Ghost, Force, Kick}
 use Rattle.cell_tree.specs.declared.tree.Span.{Span}
-use Rattle.cell_tree.specs.Tree.{Made, numbers_from}
-use Rattle.cell_tree.proofs.Members.{length-numbers_from, get_or-numbers_from, below_from_numbers}
-use Rattle.cell_tree.proofs.Rising.{Rises-numbers_from, IsStrictlyIncreasing-from_Rises}
+use Rattle.cell_tree.specs.Tree.{Made}
 use Rattle.task_weight.specs.Edges.{AreForward, AreRising}
 use Rattle.task_weight.specs.Paths.{after_of}
 use Rattle.task_graph.specs.declared.task.Task.{Task}
-use Rattle.task_graph.specs.Graph.{edges_between, is_edge, successors_of, task_at, waits_for}
+use Rattle.task_graph.specs.Graph.{edges_between, is_edge, successors_of, task_at}
+use Rattle.sph_num.specs.Kinds.{waits_for}
 use Rattle.task_graph.specs.Tasks.{cell_task, drifting_leaves, due_cells, tasks_of}
 use Rattle.task_graph.proofs.KindOrder.{none_after_kicks}
 use Rattle.task_graph.proofs.Segments.{InSegment, in_segment}
@@ -24,19 +27,19 @@ use Rattle.task_graph.proofs.Touching.{share_leaf}
 module _ (made : Made) (tasks : List Task) where
   -- one list for each task
   pub length-edges_between : length (edges_between made tasks) ≡ length tasks
-  length-edges_between = length-map (numbers_from 0 (length tasks)) (successors_of made tasks) ∙ length-numbers_from 0 (length tasks)
+  length-edges_between = length-map (range_with_len 0 (length tasks)) (successors_of made tasks) ∙ length-range_with_len 0 (length tasks)
 
   pub after_of-edges_between : (task : ℕ) → task < length tasks → after_of (edges_between made tasks) task ≡ successors_of made tasks task
   after_of-edges_between task below =
       let at : 0 + task ≡ task = omega arith in
-      get_or-map (successors_of made tasks) (numbers_from 0 (length tasks)) task 0 [] (omega (arith, length-numbers_from 0 (length tasks)))
-      ∙ ap (successors_of made tasks) (get_or-numbers_from 0 (length tasks) task 0 below ∙ at)
+      get_or-map (successors_of made tasks) (range_with_len 0 (length tasks)) task 0 [] (omega (arith, length-range_with_len 0 (length tasks)))
+      ∙ ap (successors_of made tasks) (get_or-range_with_len 0 (length tasks) task 0 below ∙ at)
 
   -- the tasks that wait for a task rise
   pub rising_successors : (task : ℕ) → IsStrictlyIncreasing (successors_of made tasks task)
   rising_successors task =
-      IsStrictlyIncreasing-filter (λ after. is_edge made (task_at tasks task) (task_at tasks after)) (numbers_from 0 (length tasks))
-      (IsStrictlyIncreasing-from_Rises (numbers_from 0 (length tasks)) (Rises-numbers_from 0 (length tasks)))
+      IsStrictlyIncreasing-filter (λ after. is_edge made (task_at tasks task) (task_at tasks after)) (range_with_len 0 (length tasks))
+      (IsStrictlyIncreasing-from_Rises (range_with_len 0 (length tasks)) (Rises-range 0 (length tasks)))
 
   pub rising_edges : AreRising (edges_between made tasks)
   rising_edges task below =
@@ -50,10 +53,10 @@ module _ (made : Made) (tasks : List Task) where
   pub successor_below : (task after : ℕ) → Contains (successors_of made tasks task) after → after < length tasks
   successor_below task after c =
       below_from_numbers (length tasks) after
-      (Contains-from_filter (λ number. is_edge made (task_at tasks task) (task_at tasks number)) (numbers_from 0 (length tasks)) after c)
+      (Contains-from_filter (λ number. is_edge made (task_at tasks task) (task_at tasks number)) (range_with_len 0 (length tasks)) after c)
 
   pub successor_edge : (task after : ℕ) → Contains (successors_of made tasks task) after → is_edge made (task_at tasks task) (task_at tasks after) ≡ true
-  successor_edge task after c = passes_from_filter (λ number. is_edge made (task_at tasks task) (task_at tasks number)) (numbers_from 0 (length tasks)) after c
+  successor_edge task after c = passes_from_filter (λ number. is_edge made (task_at tasks task) (task_at tasks number)) (range_with_len 0 (length tasks)) after c
 
   pub edge_waits : (before after : Task) → is_edge made before after ≡ true → waits_for after.kind before.kind ≡ true
   edge_waits before after t = (and_parts (waits_for after.kind before.kind) (share_leaf made before after) t).0

@@ -3,7 +3,7 @@ use Rattle.std.proofs.Common.{◌≡◌, true, refl}
 use Rattle.std.proofs.lemmas.Bool.{false≢true}
 use Rattle.sph_num.specs.declared.kind.Kind.{Kind}
 use Rattle.sph_num.specs.declared.kind.Kind.TheVariants.{Drift, Density, Ghost, Force, Kick}
-use Rattle.task_graph.specs.Graph.{waits_for}
+use Rattle.sph_num.specs.Kinds.{waits_for}
 
 pub only_densities : (kind : Kind) → waits_for kind Drift ≡ true → kind ≡ Density
 only_densities Density t = refl

@@ -11,12 +11,11 @@ pub mod LeafBounds
 pub mod LeafNumbers
 pub mod LeafTasks
 pub mod Links
-pub mod Lying
+pub mod MeetingOnce
 pub mod NumberedLists
-pub mod OnCells
-pub mod Places
+pub mod OnSpans
 pub mod Plans
-pub mod Ranges
 pub mod Segments
+pub mod SharedLeaves
 pub mod SpanLists
 pub mod Touching

@@ -2,18 +2,20 @@
 use Rattle.std.proofs.Common.{◌≡◌, ℕ, ◌+◌, Bool, true, List, [], ◌∷◌, Contains, length, map, slice_get, Some, refl, sym, ap, ◌∙◌}
 use Rattle.std.proofs.lemmas.List.Kept.{AllPairs-from_increasing}
 use Rattle.std.proofs.lemmas.Option.{slice_get_within, get_or_from_slice_get}
-use Rattle.sph_num.proofs.Members.{Contains-filter, Contains-head}
+use Rattle.std.specs.List.{range_with_len}
+use Rattle.lists.proofs.Places.{Contains-from_slice_get}
+use Rattle.lists.proofs.Ranges.{Contains-numbers}
+use Rattle.lists.proofs.Elements.{Contains-filter, Contains-head}
 use Rattle.sph_num.specs.declared.kind.Kind.{Kind}
 use Rattle.sph_num.specs.declared.kind.Kind.TheVariants.{Drift}
-use Rattle.cell_tree.specs.Tree.{Made, numbers_from}
-use Rattle.cell_tree.proofs.Members.{Contains-numbers}
+use Rattle.cell_tree.specs.Tree.{Made}
 use Rattle.task_graph.specs.declared.task.Task.{Task}
-use Rattle.task_graph.specs.Graph.{is_edge, successors_of, task_at, waits_for}
-use Rattle.task_graph.specs.Parts.{AreJoined, IsJoinedAt}
+use Rattle.task_graph.specs.Graph.{is_edge, successors_of, task_at}
+use Rattle.sph_num.specs.Kinds.{waits_for}
+use Rattle.task_graph.specs.inner.Parts.{AreJoined, IsJoinedAt}
 use Rattle.task_graph.specs.Tasks.{cell_task}
 use Rattle.task_graph.proofs.Forward.{edge_waits, rising_successors, successor_below, successor_edge, task_stands}
 use Rattle.task_graph.proofs.Segments.{Stands}
-use Rattle.task_graph.proofs.Places.{Contains-from_slice_get}
 use Rattle.task_graph.proofs.NumberedLists.{joined_are}
 
 -- The tasks of the one list stand among some tasks, from a first number on. What may wait for them are the tasks of the other list:
@@ -55,11 +57,11 @@ module _ (made : Made) (tasks : List Task) {A B : Type 0} (relates : A → B →
       let e : is_edge made (task_at tasks (first + k)) (task_at tasks number) ≡ true =
       ap (λ t. is_edge made t (task_at tasks number)) (own_task_at k a s) ∙ ap (is_edge made (make a)) at
       ∙ link.edge a j.b (Contains-from_slice_get each k a s) (Contains-from_slice_get others j.index j.b j.stands) ∙ j.related in
-      Contains-filter (λ after. is_edge made (task_at tasks (first + k)) (task_at tasks after)) (numbers_from 0 (length tasks)) number e
+      Contains-filter (λ after. is_edge made (task_at tasks (first + k)) (task_at tasks after)) (range_with_len 0 (length tasks)) number e
       (Contains-numbers (length tasks) number (slice_get_within tasks number (make' j.b) stands))
 
   -- so the lists of the related elements are those of the tasks that wait
-  pub linked_lists : (lists : List (List ℕ)) → AreJoined relates each others next lists → lists ≡ map (successors_of made tasks) (numbers_from first (length each))
+  pub linked_lists : (lists : List (List ℕ)) → AreJoined relates each others next lists → lists ≡ map (successors_of made tasks) (range_with_len first (length each))
   linked_lists lists are =
       joined_are (successors_of made tasks) relates each others first next lists are
       (λ k. AllPairs-from_increasing (successors_of made tasks k) (rising_successors made tasks k))

@@ -1,13 +1,13 @@
 -- The tasks of a step are five lists one after another: what stands at which number.
 use Rattle.std.proofs.Common.{◌≡◌, ℕ, ◌+◌, Bool, List, [], ◌++◌, length, map, slice_get, Some, refl, sym, ap, ◌∙◌, subst, inl, inr, length-append, arith}
 use Rattle.std.proofs.lemmas.List.{length-map}
+use Rattle.lists.proofs.Places.{slice_get-append_left, slice_get-append_right, slice_get-append_cases, slice_get-map_cases, slice_get-map_at}
 use Rattle.sph_num.specs.declared.kind.Kind.{Kind}
 use Rattle.sph_num.specs.declared.kind.Kind.TheVariants.{Drift, Density, Ghost, Force, Kick}
 use Rattle.cell_tree.specs.declared.tree.Span.{Span}
 use Rattle.cell_tree.specs.Tree.{Made}
 use Rattle.task_graph.specs.declared.task.Task.{Task}
 use Rattle.task_graph.specs.Tasks.{cell_task, span_task, drifting_leaves, due_cells, tasks_of}
-use Rattle.task_graph.proofs.Places.{slice_get-append_left, slice_get-append_right, slice_get-append_cases, slice_get-map_cases, slice_get-map_at}
 
 -- the number is that of the task of an element, numbered from a first number on
 pub record Stands {X : Type 0} (make : X → Task) (xs : List X) (first number : ℕ) (task : Task) : Type 0 where

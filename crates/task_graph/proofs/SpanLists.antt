@@ -3,16 +3,15 @@ use Rattle.std.proofs.Common.{◌≡◌, ℕ, ◌+◌, ◌<◌, ◌≤◌, Bool,
 use Rattle.std.specs.Prelude.{Some, None}
 use Rattle.std.proofs.lemmas.Bool.{both_ways, cases_lt, false_from_ne_true}
 use Rattle.std.proofs.lemmas.List.{get_or-map, get_or_default, length-map, same_lists}
-use Rattle.cell_geom.specs.Cube.{CubeContains}
+use Rattle.std.specs.List.{range_with_len}
+use Rattle.cell_geom.proofs.Nesting.{CubeContains-sharing}
 use Rattle.cell_tree.specs.declared.tree.Span.{Span}
 use Rattle.cell_tree.specs.Spans.{IsOtherCell, IsSpan}
-use Rattle.cell_tree.specs.Tree.{Made, cell_at, numbers_from}
-use Rattle.cell_tree.proofs.Cubes.{CubeContains-sharing}
-use Rattle.task_graph.specs.LeafLists.{AddsSpan, AddsWithin, AreInCell}
-use Rattle.task_graph.specs.Parts.{span_at, spans_above}
-use Rattle.task_graph.specs.Tasks.{is_below_span, lies_in, lies_in_some}
+use Rattle.cell_tree.specs.Tree.{Made, cell_at, lies_in}
+use Rattle.task_graph.specs.inner.LeafLists.{AddsSpan, AddsWithin, AreInCell}
+use Rattle.task_graph.specs.inner.Parts.{span_at, spans_above}
+use Rattle.task_graph.specs.Tasks.{is_below_span, lies_in_some}
 use Rattle.task_graph.proofs.LeafNumbers.{filter_numbers_more}
-use Rattle.task_graph.proofs.Lying.{CubeContains-from_test}
 
 -- at most one of two additions is one addition
 one_of_two : (xs : List ℕ) (n : ℕ) (a b : Bool) → (a ≡ true → b ≡ true → ⊥) → (xs ++ cond a (n ∷ []) []) ++ cond b (n ∷ []) [] ≡ xs ++ cond (a || b) (n ∷ []) []
@@ -23,13 +22,11 @@ one_of_two xs n false false h = append-nil (xs ++ [])
 
 module _ (made : Made) where
   -- what lies in two cells lies in one of them that contains the other
-  lies_in-apart : (a b x : ℕ) → (CubeContains (cell_at made a).cube (cell_at made b).cube → ⊥) → (CubeContains (cell_at made b).cube (cell_at made a).cube → ⊥) → lies_in made a x ≡ true → lies_in made b x ≡ true → ⊥
+  lies_in-apart : (a b x : ℕ) → lies_in made a b ≡ false → lies_in made b a ≡ false → lies_in made a x ≡ true → lies_in made b x ≡ true → ⊥
   lies_in-apart a b x apart turned s t =
-      let p = CubeContains-from_test (cell_at made a).cube (cell_at made x).cube s in
-      let q = CubeContains-from_test (cell_at made b).cube (cell_at made x).cube t in
       elim (cases_lt (cell_at made a).cube.level (cell_at made b).cube.level) [
-        | inl l ↦ apart (CubeContains-sharing _ _ (cell_at made x).cube (omega arith) p q)
-        | inr l ↦ turned (CubeContains-sharing _ _ (cell_at made x).cube l q p)
+        | inl l ↦ both_ways (lies_in made a b) apart (CubeContains-sharing _ _ (cell_at made x).cube (omega arith) s t)
+        | inr l ↦ both_ways (lies_in made b a) turned (CubeContains-sharing _ _ (cell_at made x).cube l t s)
       ]
 
   module _ (cells : List ℕ) where
@@ -88,7 +85,7 @@ module _ (made : Made) where
 
 -- the numbers of the first spans that have a leaf, by its cell, below a cell
 abbrev pub first_spans_above : Made → List Span → ℕ → ℕ → List ℕ
-first_spans_above made spans count leaf = filter (λ number. is_below_span made (span_at spans number) leaf) (numbers_from 0 count)
+first_spans_above made spans count leaf = filter (λ number. is_below_span made (span_at spans number) leaf) (range_with_len 0 count)
 
 -- the lists of the first spans
 pub record AreListsTo (made : Made) (cells : List ℕ) (spans : List Span) (count : ℕ) (lists : List (List ℕ)) : Type 0 where

@@ -1,12 +1,12 @@
 -- The graph: the tasks, which of them wait for which, what they cost and how urgent they are.
-use Rattle.std.specs.Prelude.{◌≡◌, ℕ, ◌&&◌, ◌==◌, true, false, Bool, List, map, filter, length, slice_index_or, sum_by, count_by}
-use Rattle.std.specs.List.{list_any}
-use Rattle.sph_num.specs.declared.kind.Kind.{Kind}
-use Rattle.sph_num.specs.declared.kind.Kind.TheVariants.{Drift, Density, Ghost, Force, Kick}
+use Rattle.std.specs.Prelude.{◌≡◌, ℕ, ◌<◌, ◌≤◌, ◌&&◌, ◌==◌, ◌↔◌, ◌⊎◌, true, Bool, List, Contains, map, filter, length, slice_index_or, sum_by, count_by, Option, Some, None}
+use Rattle.std.specs.List.{list_any, range_with_len}
+use Rattle.sph_num.specs.declared.kind.Kind.TheVariants.{Drift}
+use Rattle.sph_num.specs.Kinds.{waits_for}
 use Rattle.cell_tree.specs.declared.tree.Span.{Span}
-use Rattle.cell_tree.specs.Tree.{Made, numbers_from}
+use Rattle.cell_tree.specs.Tree.{Made, AreLeavesBelow}
 use Rattle.cell_tree.specs.Spans.{leaf_cells}
-use Rattle.task_weight.specs.Paths.{weights_of}
+use Rattle.task_weight.specs.Paths.{after_of, weights_of}
 use Rattle.task_graph.specs.declared.task.Task.{Task}
 use Rattle.task_graph.specs.Tasks.{cell_task, cost_of, tasks_of, touches}
 
@@ -14,22 +14,40 @@ use Rattle.task_graph.specs.Tasks.{cell_task, cost_of, tasks_of, touches}
 abbrev pub task_at : List Task → ℕ → Task
 task_at tasks task = slice_index_or tasks task (cell_task Drift 0)
 
--- tasks of the one kind wait for tasks of the other: densities for drifts, ghosts for densities, forces for ghosts, kicks for forces
-abbrev pub waits_for : Kind → Kind → Bool
-waits_for Density Drift = true
-waits_for Ghost Density = true
-waits_for Force Ghost = true
-waits_for Kick Force = true
-waits_for _ _ = false
-
 -- an edge: the one task waits for the other where its kind does and they touch a leaf in common
 abbrev pub is_edge : Made → Task → Task → Bool
 is_edge made before after =
     waits_for after.kind before.kind && list_any (λ leaf. touches made before leaf && touches made after leaf) (leaf_cells made)
 
+-- the leaf of this number is below the cell: the number is in the cell's range of leaves
+pub record IsLeafBelow (made : Made) (leaf cell : ℕ) : Type 0 where
+  pub from : ℕ
+  pub to : ℕ
+  pub are : AreLeavesBelow made cell from to
+  pub low : from ≤ leaf
+  pub high : leaf < to
+
+abbrev pub IsLeafBelowSome : Made → ℕ → Option ℕ → Type 0
+IsLeafBelowSome made leaf None = ⊥
+IsLeafBelowSome made leaf (Some cell) = IsLeafBelow made leaf cell
+
+-- a task touches the leaf of this number, and two tasks touch one leaf
+abbrev pub TouchesLeaf : Made → Task → ℕ → Type 0
+TouchesLeaf made task leaf = IsLeafBelow made leaf task.first ⊎ IsLeafBelowSome made leaf task.second
+
+abbrev pub ShareLeaf : Made → Task → Task → Type 0
+ShareLeaf made before after = (leaf : ℕ) × TouchesLeaf made before leaf × TouchesLeaf made after leaf
+
+-- one task waits for another just where its kind waits for the other's and both touch one leaf
+abbrev pub WaitAtLeaves : Made → List Task → List (List ℕ) → Type 0
+WaitAtLeaves made tasks successors =
+    (before after : ℕ) → before < length tasks → after < length tasks
+    → Contains (after_of successors before) after
+    ↔ ((waits_for (task_at tasks after).kind (task_at tasks before).kind ≡ true) × ShareLeaf made (task_at tasks before) (task_at tasks after))
+
 -- the numbers of the tasks that wait for a task, rising
 abbrev pub successors_of : Made → List Task → ℕ → List ℕ
-successors_of made tasks task = filter (λ after. is_edge made (task_at tasks task) (task_at tasks after)) (numbers_from 0 (length tasks))
+successors_of made tasks task = filter (λ after. is_edge made (task_at tasks task) (task_at tasks after)) (range_with_len 0 (length tasks))
 
 -- the number of edges into a task
 abbrev pub edges_into : List (List ℕ) → ℕ → ℕ
@@ -52,7 +70,7 @@ pub record IsPlan (plan : Plan) : Type 0 where
 
 -- the graph of some tasks
 abbrev pub edges_between : Made → List Task → List (List ℕ)
-edges_between made tasks = map (successors_of made tasks) (numbers_from 0 (length tasks))
+edges_between made tasks = map (successors_of made tasks) (range_with_len 0 (length tasks))
 
 abbrev pub plan_of : Made → List Task → Plan
 plan_of made tasks =
@@ -61,7 +79,7 @@ plan_of made tasks =
     record {
       tasks = tasks;
       successors = successors;
-      waits = map (edges_into successors) (numbers_from 0 (length tasks));
+      waits = map (edges_into successors) (range_with_len 0 (length tasks));
       costs = costs;
       weights = weights_of costs successors;
     }

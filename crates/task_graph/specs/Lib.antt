@@ -1,6 +1,4 @@
 pub mod Graph
-pub mod Joined
-pub mod LeafLists
-pub mod Parts
-pub mod Placed
+pub mod Meeting
 pub mod Tasks
+pub mod inner

@@ -1,13 +1,12 @@
 -- The tasks of a step on the cells of a tree, in the order of their numbers.
-use Rattle.std.specs.Prelude.{ℕ, ◌-◌, ◌*◌, ◌/◌, ◌+◌, ◌^◌, Bool, false, ◌&&◌, ◌||◌, ◌==◌, nat_le, if◌then◌else◌, List, [], ◌++◌, map, filter, slice_index, Option, Some, None}
+use Rattle.std.specs.Prelude.{ℕ, ◌-◌, ◌*◌, ◌/◌, ◌+◌, Bool, false, ◌||◌, if◌then◌else◌, List, ◌++◌, map, filter, Option, Some, None, []}
 use Rattle.std.specs.List.{list_any}
 use Rattle.sph_num.specs.declared.kind.Kind.{Kind}
 use Rattle.sph_num.specs.declared.kind.Kind.TheVariants.{Drift, Density, Ghost, Force, Kick}
-use Rattle.cell_geom.specs.declared.cube.Cube.{Cube}
 use Rattle.cell_tree.specs.declared.tree.Span.{Span}
-use Rattle.cell_tree.specs.Tree.{Made, cell_at}
+use Rattle.cell_tree.specs.Tree.{Made, lies_in}
 use Rattle.cell_tree.specs.Due.{has_due}
-use Rattle.cell_tree.specs.Spans.{count_of, leaf_cells}
+use Rattle.cell_tree.specs.Spans.{IsSpan, count_of, leaf_cells}
 use Rattle.task_graph.specs.declared.task.Task.{Task}
 
 -- a task on one cell, and a task on the cells of a span
@@ -17,29 +16,25 @@ cell_task kind cell = record { kind = kind; first = cell; second = None }
 abbrev pub span_task : Kind → Span → Task
 span_task kind span = record { kind = kind; first = span.first; second = span.second }
 
--- on this axis the one cube lies in the other
-abbrev pub lies_along : Cube → Cube → ℕ → Bool
-lies_along outer inner axis = slice_index inner.at axis / 2 ^ (inner.level - outer.level) == slice_index outer.at axis
+-- the cells of a task, as a span
+abbrev pub span_of_task : Task → Span
+span_of_task task = record { first = task.first; second = task.second }
 
-abbrev pub cube_lies_in : Cube → Cube → Bool
-cube_lies_in outer inner =
-    nat_le outer.level inner.level && lies_along outer inner 0 && lies_along outer inner 1 && lies_along outer inner 2
-
--- the one cell lies in the other, or is it
-abbrev pub lies_in : Made → ℕ → ℕ → Bool
-lies_in made outer inner = cube_lies_in (cell_at made outer).cube (cell_at made inner).cube
+-- they are cells of the tree, and of two neither contains the other
+abbrev pub IsOnSpan : Made → Task → Type 0
+IsOnSpan made task = IsSpan made (span_of_task task)
 
 -- it lies in the other, if there is one
 abbrev pub lies_in_some : Made → Option ℕ → ℕ → Bool
 lies_in_some made None inner = false
 lies_in_some made (Some outer) inner = lies_in made outer inner
 
--- a leaf, by its cell, is below one of a span's cells; a task touches it
+-- a leaf, by its cell, is below one of a span's cells; so a task touches it
 abbrev pub is_below_span : Made → Span → ℕ → Bool
 is_below_span made span leaf = lies_in made span.first leaf || lies_in_some made span.second leaf
 
 abbrev pub touches : Made → Task → ℕ → Bool
-touches made task leaf = lies_in made task.first leaf || lies_in_some made task.second leaf
+touches made task leaf = is_below_span made (span_of_task task) leaf
 
 -- the leaves below the cells of some spans, and those with a due member, by their cells
 abbrev pub spanned_leaves : Made → List Span → List ℕ

@@ -1,10 +1,11 @@
 //! Which leaves drift, which have a due member, and which spans have each of them below a cell.
-ghost use Rattle.std.specs.Prelude.{◌≡◌, ◌-◌, ◌^◌, ◌<◌, ◌≤◌, ℕ, List, [], ◌∷◌, ◌++◌, filter, length, map, replicate, slice_index, All, IfOk, OnOk};
+ghost use Rattle.std.specs.Prelude.{◌≡◌, ◌+◌, ◌-◌, ◌^◌, ◌<◌, ◌≤◌, ℕ, List, [], ◌∷◌, ◌++◌, filter, length, map, replicate, slice_index, All, IfOk, OnOk};
+ghost use Rattle.sph_num.specs.Ranges.{most_particles};
 ghost use Rattle.cell_tree.specs.Laws.{CanBeMade};
 ghost use Rattle.cell_tree.specs.Spans.{IsSpan, leaf_cells};
-ghost use Rattle.cell_tree.specs.Tree.{numbers_from};
-ghost use Rattle.task_graph.specs.LeafLists.{AddsSpan, AddsWithin, AreCountsOf, counts_more, has_span};
-ghost use Rattle.task_graph.specs.Parts.{AreLeavesFor, AreLeavesOf, spans_above};
+ghost use Rattle.std.specs.List.{range_with_len};
+ghost use Rattle.task_graph.specs.inner.LeafLists.{AddsSpan, AddsWithin, AreCountsOf, counts_more, has_span};
+ghost use Rattle.task_graph.specs.inner.Parts.{AreLeavesFor, AreLeavesOf, spans_above};
 ghost use Rattle.task_graph.specs.Tasks.{spanned_leaves};
 
 use cell_tree::{Span, Tree, due_leaves};
@@ -45,16 +46,19 @@ impl SpansAbove {
 /// What is known of the leaves, by their numbers.
 #[derive(Debug, Drop)]
 pub struct Leaves {
-    /// The leaves that drift, rising.
-    pub drifting: Vec<u32>,
-    /// The spans above each of them.
-    pub above_drifting: Vec<SpansAbove>,
-    /// The leaves with a due member, rising.
-    pub dues: Vec<u32>,
-    /// The spans above each of them.
-    pub above_dues: Vec<SpansAbove>,
-    /// How many of the leaves before each leaf have a due member, and last how many of all.
-    pub due_before: Vec<u32>,
+    drifting: Vec<u32>,
+    above_drifting: Vec<SpansAbove>,
+    dues: Vec<u32>,
+    above_dues: Vec<SpansAbove>,
+    due_before: Vec<u32>,
+}
+
+impl Model for Leaves {
+    ghost use Rattle.task_graph.specs.inner.Parts.{KnownLeaves, known_leaves};
+
+    ghost Value = { KnownLeaves };
+
+    ghost view = { λ l. known_leaves l.drifting.items l.above_drifting.items l.dues.items l.above_dues.items l.due_before.items };
 }
 
 /// Adds a number at the places from the count at the first leaf up to the count at the second.
@@ -139,8 +143,8 @@ fn counts_of_all(alloc: Global, tree: &Tree) -> Result<Vec<u32>, AllocError>
 
 /// The leaves with a span, rising.
 fn leaves_with_spans(alloc: Global, above: &[SpansAbove]) -> Result<Vec<u32>, AllocError>
-    requires few { length above.now ≤ 360448 }
-    ensures { IfOk result (λ v. v.items ≡ filter (has_span above.now) (numbers_from 0 (length above.now))) }
+    requires few { length above.now ≤ most_particles }
+    ensures { IfOk result (λ v. v.items ≡ filter (has_span above.now) (range_with_len 0 (length above.now))) }
 {
     let mut leaves = Vec::new(alloc);
     for (leaf, at) in above.iter().enumerate() {
@@ -173,8 +177,8 @@ fn all_spanned(
 /// The leaves with a due member, rising: those after which more have one.
 fn leaves_due(alloc: Global, due_before: &[u32]) -> Result<Vec<u32>, AllocError>
     requires some { 1 ≤ length due_before.now }
-    requires few { length due_before.now ≤ 360449 }
-    ensures { IfOk result (λ v. v.items ≡ filter (counts_more due_before.now) (numbers_from 0 (length due_before.now - 1))) }
+    requires few { length due_before.now ≤ most_particles + 1 }
+    ensures { IfOk result (λ v. v.items ≡ filter (counts_more due_before.now) (range_with_len 0 (length due_before.now - 1))) }
 {
     let mut leaves = Vec::new(alloc);
     for leaf in 1..due_before.len() {
@@ -197,7 +201,7 @@ impl Leaves {
         requires one_flag_each { length due.now ≡ length tree.now.points }
         requires spans { All (IsSpan tree.now) spans.now }
         requires few { length spans.now < 2 ^ 30 }
-        ensures leaves { IfOk result (λ l. AreLeavesFor tree.now spans.now due.now drift l.drifting.items l.above_drifting.items l.dues.items l.above_dues.items l.due_before.items) }
+        ensures leaves { IfOk result (AreLeavesFor tree.now spans.now due.now drift) }
         ensures can { OnOk result (CanBeMade tree.now) }
     {
         let due_before = due_leaves(alloc, tree, due)?;
@@ -215,5 +219,40 @@ impl Leaves {
             above_dues,
             due_before,
         })
+    }
+
+    /// The leaves that drift, rising.
+    pub fn drifting(&self) -> &[u32]
+        ensures { result.now ≡ self.now.drifting }
+    {
+        &self.drifting
+    }
+
+    /// The spans above each leaf that drifts.
+    pub fn above_drifting(&self) -> &[SpansAbove]
+        ensures { result.now ≡ self.now.above_drifting }
+    {
+        &self.above_drifting
+    }
+
+    /// The leaves with a due member, rising.
+    pub fn dues(&self) -> &[u32]
+        ensures { result.now ≡ self.now.dues }
+    {
+        &self.dues
+    }
+
+    /// The spans above each leaf with a due member.
+    pub fn above_dues(&self) -> &[SpansAbove]
+        ensures { result.now ≡ self.now.above_dues }
+    {
+        &self.above_dues
+    }
+
+    /// How many of the leaves before each leaf have a due member, and last how many of all.
+    pub fn due_before(&self) -> &[u32]
+        ensures { result.now ≡ self.now.due_before }
+    {
+        &self.due_before
     }
 }

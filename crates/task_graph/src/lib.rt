@@ -4,9 +4,11 @@
 mod costs;
 mod graph;
 mod leaves;
-mod lists;
 mod numbers;
+mod successors;
 mod task;
+#[cfg(test)]
+mod tests;
 mod waits;
 
 pub use graph::Graph;

@@ -1,5 +1,6 @@
 //! Where the numbers of each kind of task begin.
 ghost use Rattle.std.specs.Prelude.{◌≡◌, ◌+◌, ◌<◌, ◌≤◌, ◌^◌};
+ghost use Rattle.sph_num.specs.Ranges.{most_particles};
 
 /// The first number of each kind but the drifts, which begin with 0.
 #[derive(Clone, Copy, Debug, PartialEq, Eq)]
@@ -13,9 +14,9 @@ pub struct Numbers {
 impl Numbers {
     /// The numbers for so many leaves that drift, spans, and leaves with a due member.
     pub fn of(drifting: usize, spans: usize, dues: usize) -> Numbers
-        requires drifting { drifting ≤ 360448 }
+        requires drifting { drifting ≤ most_particles }
         requires spans { spans < 2 ^ 30 }
-        requires dues { dues ≤ 360448 }
+        requires dues { dues ≤ most_particles }
         ensures densities { result.densities ≡ drifting }
         ensures ghosts { result.ghosts ≡ drifting + spans }
         ensures forces { result.forces ≡ drifting + spans + dues }

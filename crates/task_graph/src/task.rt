@@ -2,7 +2,7 @@
 ghost use Rattle.std.specs.Prelude.{◌≡◌, ◌++◌, map, slice_index, OnOk};
 ghost use Rattle.sph_num.specs.declared.kind.Kind.{Kind};
 ghost use Rattle.cell_tree.specs.Spans.{leaf_cells};
-ghost use Rattle.task_graph.specs.Parts.{AreLeavesOf};
+ghost use Rattle.task_graph.specs.inner.Parts.{AreLeavesOf};
 ghost use Rattle.task_graph.specs.Tasks.{cell_task, span_task};
 
 use cell_tree::{Span, Tree};

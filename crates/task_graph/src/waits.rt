@@ -1,6 +1,6 @@
 //! For how many tasks each task waits.
 ghost use Rattle.std.specs.Prelude.{◌≡◌, ◌==◌, ◌+◌, ◌<◌, ◌^◌, ℕ, length, map, count_by, slice_index, All, IfOk};
-ghost use Rattle.cell_tree.specs.Tree.{numbers_from};
+ghost use Rattle.std.specs.List.{range_with_len};
 ghost use Rattle.std.specs.List.Sorted.{IsStrictlyIncreasing};
 ghost use Rattle.task_graph.specs.Graph.{edges_into};
 ghost use Rattle.task_weight.specs.Edges.{AreForward, AreRising};
@@ -12,7 +12,7 @@ use task_weight::Edges;
 pub fn waits_of(alloc: Global, edges: &Edges) -> Result<Vec<u32>, AllocError>
     requires forward { AreForward edges.now }
     requires rising { AreRising edges.now }
-    ensures { IfOk result (λ v. v.items ≡ map (edges_into edges.now) (numbers_from 0 (length edges.now))) }
+    ensures { IfOk result (λ v. v.items ≡ map (edges_into edges.now) (range_with_len 0 (length edges.now))) }
 {
     let mut waits = vec![in alloc; 0u32; edges.tasks() as usize]?;
     for task in 0..edges.tasks() {

@@ -1,22 +1,14 @@
 -- Weights found from the last task to the first: what one more task needs, and that no path costs more than all tasks from its first on.
-use Rattle.std.proofs.Common.{◌≡◌, ℕ, zero, suc, ◌+◌, ◌-◌, ◌<◌, ◌≤◌, max, List, [], ◌∷◌, map, length, get_or, set, drop, refl, sym, ap, ◌∙◌, subst, inl, inr, ◌⊎◌, arith}
+use Rattle.std.proofs.Common.{◌≡◌, ℕ, ◌+◌, ◌-◌, ◌<◌, ◌≤◌, max, List, [], ◌∷◌, map, length, get_or, set, drop, refl, sym, ap, ◌∙◌, subst, inl, inr, ◌⊎◌, arith}
 use Rattle.std.specs.List.{All, Contains, fold, sum_by}
 use Rattle.std.proofs.lemmas.Bool.{cases_lt}
-use Rattle.std.proofs.lemmas.List.{get_or-set_same, get_or-set_other, drop-drop, length-set}
-use Rattle.std.proofs.lemmas.List.Elements.{Contains-get_or, Contains-append_right}
+use Rattle.std.proofs.lemmas.List.{get_or_default, get_or-set_same, get_or-set_other, drop-drop, length-set}
+use Rattle.std.proofs.lemmas.List.Elements.{All-contains, Contains-get_or}
 use Rattle.std.proofs.lemmas.List.Sums.{sum_by-cons, sum_by-drop_more, sum_by-take-drop}
+use Rattle.lists.proofs.Elements.{Contains-head, Contains-later, Contains-map}
+use Rattle.lists.proofs.Extremes.{All-fold_max}
 use Rattle.task_weight.specs.Edges.{AreForward}
-use Rattle.task_weight.specs.Paths.{after_of, IsPathFrom, path_cost, IsWeight, greatest_weight}
-
--- an element of a longer list, by cases on its place
-at_place : (P : Type 0) (y : ℕ) (ys : List ℕ) (x : ℕ) → (y ≡ x → P) → (Contains ys x → P) → (k : ℕ) → k < length (y ∷ ys) → get_or (y ∷ ys) k x ≡ x → P
-at_place P y ys x here there zero l e = here e
-at_place P y ys x here there (suc k) l e = there (k, omega arith, e)
-
--- the greatest of some numbers and of one to begin with
-fold_max-le : (first : ℕ) (xs : List ℕ) → first ≤ fold max first xs
-fold_max-le first [] = omega arith
-fold_max-le first (x ∷ xs) = let rest = fold_max-le (max first x) xs in omega arith
+use Rattle.task_weight.specs.Paths.{after_of, IsPathFrom, path_cost, IsWeight, AreWeights, greatest_weight}
 
 -- the greatest weight of some tasks, from one number on: that number, or the weight of one of them
 fold_max_reached : (weights : List ℕ) (first : ℕ) (tasks : List ℕ) →
@@ -25,19 +17,17 @@ fold_max_reached weights first [] = inl refl
 fold_max_reached weights first (t ∷ tasks) =
     elim (fold_max_reached weights (max first (get_or weights t 0)) tasks) [
       | inl same ↦ elim (cases_lt first (get_or weights t 0)) [
-        | inl more ↦ inr (t, Contains-get_or (t ∷ tasks) 0 t (omega arith), omega arith)
+        | inl more ↦ inr (t, Contains-head t tasks, omega arith)
         | inr less ↦ inl (omega arith)
       ]
-      | inr found ↦ inr (found.0, Contains-append_right (t ∷ []) tasks found.0 found.1, found.2)
+      | inr found ↦ inr (found.0, Contains-later t tasks found.0 found.1, found.2)
     ]
 
 -- no weight of one of them is more
 fold_max_most : (weights : List ℕ) (first : ℕ) (tasks : List ℕ) (task : ℕ) → Contains tasks task → get_or weights task 0 ≤ fold max first (map (λ t. get_or weights t 0) tasks)
-fold_max_most weights first [] task c = let l = c.1 in absurd (omega arith)
-fold_max_most weights first (t ∷ tasks) task c =
-    at_place (get_or weights task 0 ≤ fold max first (map (λ t. get_or weights t 0) (t ∷ tasks))) t tasks task
-    (λ e. let here : get_or weights t 0 ≡ get_or weights task 0 = ap (λ k. get_or weights k 0) e in omega (arith, fold_max-le (max first (get_or weights t 0)) (map (λ t. get_or weights t 0) tasks)))
-    (λ later. fold_max_most weights (max first (get_or weights t 0)) tasks task later) c.0 c.1 c.2
+fold_max_most weights first tasks task c =
+    let all = map (λ t. get_or weights t 0) tasks in
+    All-contains (λ weight. weight ≤ fold max first all) all (get_or weights task 0) (All-fold_max first all) (Contains-map (λ t. get_or weights t 0) tasks task c)
 
 -- no costs from a later task on are more
 sum_from-le : (costs : List ℕ) (first later : ℕ) → first ≤ later → sum_by (λ cost. cost) (drop later costs) ≤ sum_by (λ cost. cost) (drop first costs)
@@ -55,6 +45,15 @@ path_cost-le costs edges each forward task (next ∷ path) below is =
     let goes = forward task next (omega arith) is.0 in
     let rest = path_cost-le costs edges each forward next path (omega (arith, goes.1)) is.1 in
     omega (arith, sum_by-drop_more (λ cost. cost) costs task 0 below, sum_by-cons (λ t. get_or costs t 0) next path, sum_from-le costs (task + 1) next (omega (arith, goes.0)))
+
+-- no weight is more than what all tasks cost
+pub weights_within : (costs : List ℕ) (edges : List (List ℕ)) (weights : List ℕ) → length costs ≡ length edges → AreForward edges → AreWeights costs edges weights →
+    All (λ weight. weight ≤ sum_by (λ cost. cost) costs) weights
+weights_within costs edges weights each forward are k d l =
+    let long = are.one_each in
+    let below : k < length costs = omega arith in
+    let w = are.each k below in
+    omega (arith, get_or_default weights k d 0 l, w.reached, path_cost-le costs edges each forward k w.path below w.is_path, sum_from-le costs 0 k (omega arith))
 
 -- from one task on, the weights are those of the tasks
 pub record AreFrom (costs : List ℕ) (edges : List (List ℕ)) (weights : List ℕ) (first : ℕ) : Type 0 where
@@ -106,10 +105,10 @@ weight_next-le costs edges weights task first each forward from next_is below =
     omega (arith, w.reached, path_cost-le costs edges each forward task w.path below w.is_path, sum_from-le costs 0 task (omega arith))
 
 -- functions that agree on the elements
-pub map_agree : (f g : ℕ → ℕ) (xs : List ℕ) → ((x : ℕ) → Contains xs x → f x ≡ g x) → map f xs ≡ map g xs
+pub map_agree : {X Y : Type 0} (f g : X → Y) (xs : List X) → ((x : X) → Contains xs x → f x ≡ g x) → map f xs ≡ map g xs
 map_agree f g [] same = refl
 map_agree f g (x ∷ xs) same =
-    ap (λ y. y ∷ map f xs) (same x (Contains-get_or (x ∷ xs) 0 x (omega arith))) ∙ ap (λ ys. g x ∷ ys) (map_agree f g xs (λ y c. same y (Contains-append_right (x ∷ []) xs y c)))
+    ap (λ y. y ∷ map f xs) (same x (Contains-head x xs)) ∙ ap (λ ys. g x ∷ ys) (map_agree f g xs (λ y c. same y (Contains-later x xs y c)))
 
 -- a weight that is written changes no later one, nor what is greatest among later tasks
 later_kept : (weights : List ℕ) (task weight later : ℕ) → task < later → get_or (set weights task weight) later 0 ≡ get_or weights later 0

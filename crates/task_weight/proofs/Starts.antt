@@ -1,23 +1,14 @@
 -- The starts of each task's edges: what they read, and what one more task makes of them.
-use Rattle.std.proofs.Common.{◌≡◌, ℕ, zero, suc, ◌+◌, ◌-◌, ◌<◌, ◌≤◌, ◌^◌, List, [], ◌∷◌, ◌++◌, map, length, get_or, take, drop, refl, sym, ap, ◌∙◌, inl, inr, arith, length-append, length-drop}
+use Rattle.std.proofs.Common.{◌≡◌, ℕ, zero, suc, ◌+◌, ◌-◌, ◌<◌, ◌≤◌, ◌^◌, List, [], ◌∷◌, ◌++◌, map, length, get_or, refl, sym, ap, ◌∙◌, inl, inr, arith, length-append}
 use Rattle.std.specs.List.{range_with_len, slice_range}
 use Rattle.std.proofs.lemmas.Bool.{cases_lt}
-use Rattle.std.proofs.lemmas.List.{same_lists, length_push, get_or_push, get_or_append_left, get_or_read, take-append-le, drop-append-le, take_all, drop_at}
+use Rattle.std.proofs.lemmas.List.{length_push, get_or_push, get_or_append_left, get_or_read}
 use Rattle.std.proofs.lemmas.List.FromFn.{length-map-range_with_len, get_or-map-range_with_len, map-range_with_len_more}
+use Rattle.lists.proofs.Places.{slice_range-append, slice_range-end}
+use Rattle.lists.proofs.Ranges.{below_from_numbers}
 use Rattle.task_weight.specs.Edges.{AreStarts, edges_of, ends_of}
 use Rattle.task_weight.specs.Paths.{after_of}
-
-pub AreStarts-none : AreStarts (0 ∷ []) []
-AreStarts-none = record {
-  some = omega arith;
-  few = omega arith;
-  first = refl;
-  rising = λ task below. absurd (omega arith);
-  last = refl;
-}
-
-pub edges_of-none : edges_of (0 ∷ []) [] ≡ []
-edges_of-none = refl
+use Rattle.task_weight.proofs.GreatestPaths.{map_agree}
 
 -- from the last start back
 below_end : (starts ends : List ℕ) → AreStarts starts ends → (left task : ℕ) → task + left + 1 ≡ length starts → get_or starts task 0 ≤ length ends
@@ -76,24 +67,12 @@ AreStarts-add starts ends added are few =
       last = let at : length (starts ++ total ∷ []) - 1 ≡ length starts = omega arith in ap (λ k. get_or (starts ++ total ∷ []) k 0) at ∙ end;
     }
 
--- a part that ends within the first list
-part_of_first : (xs ys : List ℕ) (start end : ℕ) → start ≤ end → end ≤ length xs → slice_range (xs ++ ys) start end ≡ slice_range xs start end
-part_of_first xs ys start end rises within =
-    ap (take (end - start)) (drop-append-le start xs ys (omega arith))
-    ∙ take-append-le (end - start) (drop start xs) ys (omega (arith, length-drop start xs))
-
--- the part behind the first list
-part_behind : (xs ys : List ℕ) → slice_range (xs ++ ys) (length xs) (length (xs ++ ys)) ≡ ys
-part_behind xs ys =
-    ap (take (length (xs ++ ys) - length xs)) (drop_at xs ys (length xs) refl)
-    ∙ take_all (length (xs ++ ys) - length xs) ys (omega (arith, length-append xs ys))
-
 -- the tasks before the new one keep their ends
 ends_of-early : (starts ends added : List ℕ) (total : ℕ) → AreStarts starts ends → (task : ℕ) → task + 1 < length starts → ends_of (starts ++ total ∷ []) (ends ++ added) task ≡ ends_of starts ends task
 ends_of-early starts ends added total are task below =
     ap (λ start. slice_range (ends ++ added) start (get_or (starts ++ total ∷ []) (task + 1) 0)) (get_or_append_left starts (total ∷ []) 0 task (omega arith))
     ∙ ap (λ end. slice_range (ends ++ added) (get_or starts task 0) end) (get_or_append_left starts (total ∷ []) 0 (task + 1) below)
-    ∙ part_of_first ends added (get_or starts task 0) (get_or starts (task + 1) 0) (are.rising task below) (starts_most starts ends are (task + 1) below)
+    ∙ slice_range-append ends added (get_or starts task 0) (get_or starts (task + 1) 0) (are.rising task below) (starts_most starts ends are (task + 1) below)
 
 -- the new task has the ends that were added
 ends_of-last : (starts ends added : List ℕ) → AreStarts starts ends → ends_of (starts ++ length (ends ++ added) ∷ []) (ends ++ added) (length starts - 1) ≡ added
@@ -103,16 +82,7 @@ ends_of-last starts ends added are =
     let at : length starts - 1 + 1 ≡ length starts = omega arith in
     let from : get_or (starts ++ total ∷ []) (length starts - 1) 0 ≡ length ends = get_or_append_left starts (total ∷ []) 0 (length starts - 1) (omega arith) ∙ are.last in
     let to : get_or (starts ++ total ∷ []) (length starts - 1 + 1) 0 ≡ total = get_or_push starts total 0 (length starts - 1 + 1) (omega arith) in
-    ap (λ start. slice_range (ends ++ added) start (get_or (starts ++ total ∷ []) (length starts - 1 + 1) 0)) from
-    ∙ ap (λ end. slice_range (ends ++ added) (length ends) end) to
-    ∙ part_behind ends added
-
-same_below : (f g : ℕ → List ℕ) (n : ℕ) → ((k : ℕ) → k < n → f k ≡ g k) → map f (range_with_len 0 n) ≡ map g (range_with_len 0 n)
-same_below f g n same =
-    same_lists (map f (range_with_len 0 n)) (map g (range_with_len 0 n)) (length-map-range_with_len f 0 n ∙ sym (length-map-range_with_len g 0 n))
-    (λ k d below.
-    let l : k < n = omega (arith, length-map-range_with_len f 0 n) in
-    get_or-map-range_with_len f 0 n k k d l (omega arith) ∙ same k l ∙ sym (get_or-map-range_with_len g 0 n k k d l (omega arith)))
+    slice_range-end ends added _ _ from to
 
 -- one more task, whose edges stand last
 pub edges_of-add : (starts ends added : List ℕ) → AreStarts starts ends → edges_of (starts ++ length (ends ++ added) ∷ []) (ends ++ added) ≡ edges_of starts ends ++ added ∷ []
@@ -125,7 +95,7 @@ edges_of-add starts ends added are =
     ap (λ k. map more (range_with_len 0 k)) count
     ∙ map-range_with_len_more more 0 n n (omega arith)
     ∙ ap (λ last. map more (range_with_len 0 n) ++ last ∷ []) (ends_of-last starts ends added are)
-    ∙ ap (λ early. early ++ added ∷ []) (same_below more (ends_of starts ends) n (λ k below. ends_of-early starts ends added total are k (omega arith)))
+    ∙ ap (λ early. early ++ added ∷ []) (map_agree more (ends_of starts ends) (range_with_len 0 n) (λ k c. ends_of-early starts ends added total are k (omega (arith, below_from_numbers n k c))))
 
 -- one start more than there are tasks
 pub length-edges_of : (starts ends : List ℕ) → AreStarts starts ends → length (edges_of starts ends) + 1 ≡ length starts

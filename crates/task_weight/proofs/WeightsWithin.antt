@@ -1,7 +1,7 @@
--- The weights by the number of tasks of a path: with as many as there are they are the weights, and no other list is.
+-- The weights by the number of tasks of a path: with as many as there are they are the weights.
 use Rattle.std.proofs.Common.{◌≡◌, ℕ, zero, suc, ◌+◌, ◌<◌, ◌≤◌, max, List, map, length, get_or, sym, subst, arith}
 use Rattle.std.specs.List.{Contains, fold, range_with_len}
-use Rattle.std.proofs.lemmas.List.FromFn.{length-map-range_with_len, get_or-map-range_with_len, fill_by_all}
+use Rattle.std.proofs.lemmas.List.FromFn.{get_or-map-range_with_len, fill_by_all}
 use Rattle.task_weight.specs.Edges.{AreForward}
 use Rattle.task_weight.specs.Paths.{after_of, IsWeight, AreWeights, weight_within, weights_of}
 use Rattle.task_weight.proofs.GreatestPaths.{map_agree, weight_more}
@@ -27,17 +27,7 @@ module _ (costs : List ℕ) (edges : List (List ℕ)) (each : length costs ≡ l
       let l = low next waits in
       subst (IsWeight costs edges next) (sym (at next l.1)) (within-IsWeight most next (omega (arith, l.0)) l.1)))
 
-  -- the list by its definition has the weights
-  pub AreWeights-weights_of : AreWeights costs edges (weights_of costs edges)
-  AreWeights-weights_of = record {
-    one_each = length-map-range_with_len (weight_within costs edges (length costs)) 0 (length costs);
-    each = λ task below.
-        subst (IsWeight costs edges task)
-        (sym (get_or-map-range_with_len (weight_within costs edges (length costs)) 0 (length costs) task task 0 below (omega arith)))
-        (within-IsWeight (length costs) task (omega arith) below);
-  }
-
-  -- and no other list has
+  -- weights are the list by its definition
   pub weights_of-only : (weights : List ℕ) → AreWeights costs edges weights → weights ≡ weights_of costs edges
   weights_of-only weights are =
       fill_by_all (weight_within costs edges (length costs)) weights (length costs) 0 are.one_each

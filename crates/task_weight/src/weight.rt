@@ -14,6 +14,7 @@ pub fn weights(alloc: Global, costs: &[u64], edges: &Edges) -> Result<Vec<u64>, 
     requires few { sum_by (λ cost. cost) costs.now < 2 ^ 64 }
     ensures greatest { IfOk result (λ v. AreWeights costs.now edges.now v.items) }
     ensures value { IfOk result (λ v. v.items ≡ weights_of costs.now edges.now) }
+    ensures within { IfOk result (λ v. All (λ weight. weight ≤ sum_by (λ cost. cost) costs.now) v.items) }
     ensures follow { IfOk result (λ v. FollowSuccessors costs.now edges.now v.items) }
 {
     let mut weights = vec![in alloc; 0u64; costs.len()]?;

@@ -3,7 +3,7 @@ ghost use Rattle.std.specs.Prelude.{◌≡◌, ◌-◌, ◌<◌, ◌↔◌, ℕ,
 ghost use Rattle.qs_core.specs.Shape.{ancestors};
 ghost use Rattle.qs_core.specs.Core.{IsComplete};
 ghost use Rattle.qs_core.specs.Steps.{ancestor_at, lowered_chain, new_chain, raised_chain};
-ghost use Rattle.qs_core.specs.Held.{IsOwner};
+ghost use Rattle.qs_core.specs.inner.Held.{IsOwner};
 
 use crate::layout::Layout;
 use std::marker::Model;

@@ -1,8 +1,7 @@
 //! The chains of a seat, the newest first.
-ghost use Rattle.std.specs.Prelude.{◌≡◌, ◌<◌, ◌∷◌, length, slice_get};
-ghost use Rattle.qs_core.specs.Shape.{or_else};
+ghost use Rattle.std.specs.Prelude.{◌≡◌, ◌<◌, ◌∷◌, length, slice_get, unwrap_or};
 ghost use Rattle.qs_core.specs.Steps.{no_chain, rest};
-ghost use Rattle.qs_core.specs.Held.{chains_of};
+ghost use Rattle.qs_core.specs.inner.Held.{chains_of};
 
 use super::chain::LockChain;
 
@@ -17,7 +16,7 @@ pub enum Chains {
 impl Chains {
     /// The newest chain: all 0 where there is none.
     pub fn newest(self) -> LockChain
-        ensures { result ≡ or_else no_chain (slice_get (chains_of self) 0) }
+        ensures { result ≡ unwrap_or (slice_get (chains_of self) 0) no_chain }
     {
         match self {
             Chains::Empty => LockChain::new(0),

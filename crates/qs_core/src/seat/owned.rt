@@ -1,6 +1,6 @@
 //! The cells that a seat owns.
 ghost use Rattle.std.specs.Prelude.{◌≡◌, ◌↔◌, ◌⊎◌, IsTrue, Some};
-ghost use Rattle.qs_core.specs.Held.{AreJust, IsEither};
+ghost use Rattle.qs_core.specs.inner.Held.{AreJust, IsEither};
 
 use crate::layout::TaskPlan;
 

@@ -1,9 +1,8 @@
 //! The task that a seat runs.
 ghost use Rattle.std.specs.Prelude.{◌≡◌, ◌≢◌, ◌<◌, ◌↔◌, [], length, slice_index, Contains, IfOk, IsTrue};
-ghost use Rattle.qs_core.specs.Shape.{leaves_of, task_at};
-ghost use Rattle.qs_core.specs.Steps.{after_release, after_return, unless_over};
+ghost use Rattle.qs_core.specs.Steps.{after_release, after_return, started, unless_over};
 
-use super::lists::{first_of, remove_first, remove_leaf};
+use super::numbers::{first_of, remove_first, remove_leaf};
 use crate::layout::Layout;
 use std::alloc::{AllocError, Global};
 use std::marker::Model;
@@ -28,7 +27,7 @@ impl RunningTask {
     /// A task that was just claimed: all is left.
     pub fn new(alloc: Global, layout: &Layout, task: u32) -> Result<RunningTask, AllocError>
         requires { task < length layout.now.tasks }
-        ensures { IfOk result (λ running. running ≡ record { task = task; leaves = leaves_of layout.now task; successors = (task_at layout.now task).successors }) }
+        ensures { IfOk result (λ running. running ≡ started layout.now task) }
     {
         Ok(RunningTask {
             task,

@@ -5,7 +5,7 @@ ghost use Rattle.qs_core.specs.Steps.{Allowed, CanClaim, CanFetch, CanLock, CanL
 
 use super::Seat;
 use super::chain::LockChain;
-use super::lists::remove_leaf;
+use super::numbers::remove_leaf;
 use super::running::{RunningTask, after_release, after_return};
 use crate::event::Step;
 use crate::layout::Layout;
@@ -67,7 +67,7 @@ impl Seat {
     }
 
     /// Whether the seat may make a step.
-    pub fn may(&self, layout: &Layout, step: Step) -> bool
+    pub(crate) fn may(&self, layout: &Layout, step: Step) -> bool
         ensures { IsTrue result ↔ Allowed layout.now self.now step }
     {
         match step {
@@ -83,7 +83,7 @@ impl Seat {
     }
 
     /// The cell, leaf or task on whose word a step is made.
-    pub fn object(&self, layout: &Layout, step: Step) -> u32
+    pub(crate) fn object(&self, layout: &Layout, step: Step) -> u32
         ensures { result ≡ object_of layout.now self.now step }
     {
         match step {
@@ -166,7 +166,7 @@ impl Seat {
     }
 
     /// Makes a step that saw this word. The memory for it is taken first.
-    pub fn make(
+    pub(crate) fn make(
         &mut self,
         alloc: Global,
         layout: &Layout,

@@ -1,6 +1,6 @@
 use Rattle.std.proofs.Common.{◌≡◌}
-use Rattle.cell_tree.specs.Tree.{numbers_from}
+use Rattle.std.specs.List.{range_with_len}
 use Rattle.cell_tree.proofs.cells.numbers.Given as goal
 
 abbrev pub invariant-loop-number : goal.invariant-loop-number
-invariant-loop-number l = l.numbers.items ≡ numbers_from 0 l.number
+invariant-loop-number l = l.numbers.items ≡ range_with_len 0 l.number

@@ -1,6 +1,6 @@
 use Rattle.std.proofs.Common.{◌≡◌, ◌+◌, ◌++◌, [], ◌∷◌, length, sym, ap, ◌∙◌, subst, arith}
-use Rattle.sph_num.proofs.Members.{written_back}
-use Rattle.cell_tree.specs.Parts.{KnowsParents, AreChildrenOf}
+use Rattle.lists.proofs.Elements.{written_back}
+use Rattle.cell_tree.specs.inner.Parts.{KnowsParents, AreChildrenOf}
 use Rattle.cell_tree.specs.Tree.{cells_of}
 use Rattle.cell_tree.proofs.FoundChildren.{AreChildrenOf-more}
 use Rattle.cell_tree.proofs.children.children_of.Goals as goal

@@ -1,5 +1,5 @@
 use Rattle.std.proofs.Common.{◌≡◌, length}
-use Rattle.cell_tree.specs.Parts.{KnowsParents, AreChildrenOf}
+use Rattle.cell_tree.specs.inner.Parts.{KnowsParents, AreChildrenOf}
 use Rattle.cell_tree.specs.Tree.{cells_of}
 use Rattle.cell_tree.proofs.children.children_of.Given as goal
 

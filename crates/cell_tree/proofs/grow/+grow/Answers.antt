@@ -3,11 +3,12 @@ use borrow.Rule.Slice.PartMut.{put_mid}
 use Rattle.cell_geom.specs.declared.cube.Cube.{Cube}
 use Rattle.cell_tree.specs.declared.node.Node.{Node}
 use Rattle.cell_tree.specs.Tree.{made_of, is_leaf, reach_of}
-use Rattle.cell_tree.specs.Nodes.{cell_over, node_of, members_in, in_octants}
-use Rattle.cell_tree.specs.Under.{cells_under, cells_below}
-use Rattle.cell_tree.proofs.Growth.{IsGrownTo-skip, IsGrownTo-take, end_within, part_stands, part_long, child_is, child_sound, AreHeld-from_IsSound, lengths_of_members, leaf_members_all, leaf_nodes_all, split_members_all, grown_length, grown_at, grown_set, size_fits}
+use Rattle.cell_tree.specs.inner.Nodes.{cell_over, node_of, members_in, in_octants}
+use Rattle.cell_tree.specs.inner.Under.{cells_under, cells_below}
+use Rattle.cell_tree.proofs.Growth.{IsGrownTo-skip, IsGrownTo-take, end_within, part_stands, part_long, child_is, child_sound, lengths_of_members, leaf_members_all, leaf_nodes_all, split_members_all, grown_length, grown_at, grown_set, size_fits}
 use Rattle.cell_tree.proofs.grow.+grow.Goals as goal
 use Rattle.cell_tree.proofs.grow.+grow.Goals.{grow-After-len, grow_octants-then-start-end+in_ok-grow, grow_octants-else-start-end}
+use Rattle.sph_num.specs.Ranges.{most_particles}
 
 pub grow-reach-requires : goal.grow-reach-requires
 grow-reach-requires t c = lengths_of_members (made_of c.args.points.now c.args.lengths.now c.args.leaf) (cell_over c.args.cube c.args.members.now) c.requires.can c.requires.sound
@@ -66,9 +67,6 @@ grow-returns-else-not-is_leaf-clause-nodes t c =
     leaf_nodes_all (made_of c.args.points.now c.args.lengths.now c.args.leaf) (cell_over c.args.cube c.args.members.now) c.args.nodes.now.items c.push.new.self.items c.reach.result
     (sym c.is_leaf.ensures ∙ c.if-not-is_leaf.false) c.reach.ensures c.in_ok-push.ensures.items
 
-pub grow_octants-sort_by_octant-requires-clause-held : goal.grow_octants-sort_by_octant-requires-clause-held
-grow_octants-sort_by_octant-requires-clause-held t c = AreHeld-from_IsSound (made_of c.args.points.now c.args.lengths.now c.args.leaf) (cell_over c.args.cube c.args.members.now) c.requires.can c.requires.sound
-
 pub grow_octants-slice_bounds-part-end : goal.grow_octants-slice_bounds-part-end
 grow_octants-slice_bounds-part-end t c =
     let made = made_of c.args.points.now c.args.lengths.now c.args.leaf in
@@ -92,7 +90,7 @@ grow_octants-grow-requires t c =
         (
           child_sound made cell c.args.nodes.now.items c.loop-number.number c.loop-number.members c.loop-number.start end c.loop-number.nodes.items c.child.result c.loop-number.invariant c.loop-number-test.true ends c.if-start-end.true
               c.requires.sound (record { many = c.requires.many; level = c.requires.splits }) c.child.ensures.value,
-          (let l : length (take (end - c.loop-number.start) (drop c.loop-number.start c.loop-number.members)) ≤ 32768 = omega (arith, c.requires.short) in l),
+          (let l : length (take (end - c.loop-number.start) (drop c.loop-number.start c.loop-number.members)) ≤ most_particles = omega (arith, c.requires.short) in l),
         ),
       ),
     )

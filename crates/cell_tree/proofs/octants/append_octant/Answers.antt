@@ -6,7 +6,10 @@ use Rattle.cell_tree.proofs.octants.append_octant.Goals as goal
 use Rattle.cell_tree.proofs.octants.append_octant.Goals.{then-octant-number+in_ok-push, else-octant-number}
 
 pub bounds-points-i : goal.bounds-points-i
-bounds-points-i c = c.requires.held.within _ (Contains-get_or c.args.members.now c.loop-i.i-index 0 c.loop-i-test.true)
+bounds-points-i c = (c.requires.held.each _ (Contains-get_or c.args.members.now c.loop-i.i-index 0 c.loop-i-test.true)).0
+
+pub octant-requires-clause-held : goal.octant-requires-clause-held
+octant-requires-clause-held c = (c.requires.held.each _ (Contains-get_or c.args.members.now c.loop-i.i-index 0 c.loop-i-test.true)).1
 
 pub loop-i-preserved : goal.loop-i-preserved
 loop-i-preserved c =

@@ -1,5 +1,5 @@
 use Rattle.std.proofs.Common.{◌≡◌, ◌++◌, take}
-use Rattle.cell_tree.specs.Nodes.{in_octant}
+use Rattle.cell_tree.specs.inner.Nodes.{in_octant}
 use Rattle.cell_tree.proofs.octants.append_octant.Given as goal
 
 abbrev pub invariant-loop-i : goal.invariant-loop-i

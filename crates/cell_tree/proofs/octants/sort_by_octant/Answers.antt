@@ -1,5 +1,5 @@
 use Rattle.std.proofs.Common.{◌≡◌, ◌+◌, ◌++◌, length, sym, ap, ◌∙◌, arith, rules}
-use Rattle.cell_tree.specs.Nodes.{in_octant, in_octants}
+use Rattle.cell_tree.specs.inner.Nodes.{in_octant, in_octants}
 use Rattle.cell_tree.proofs.OctantLists.{in_octants_more, length-in_octants, ends_more}
 use Rattle.cell_tree.proofs.octants.sort_by_octant.Goals as goal
 

@@ -1,5 +1,5 @@
 use Rattle.std.proofs.Common.{◌≡◌, ℕ, ◌+◌, ◌<◌, length, slice_index}
-use Rattle.cell_tree.specs.Nodes.{in_octants}
+use Rattle.cell_tree.specs.inner.Nodes.{in_octants}
 use Rattle.cell_tree.proofs.octants.sort_by_octant.Given as goal
 
 abbrev pub invariant-loop-number : goal.invariant-loop-number

@@ -8,26 +8,14 @@ use Rattle.qs_core.proofs.SoundKept.{sound_kept}
 use Rattle.qs_core.proofs.UnreleasedEdges.{unreleased_are_counted}
 use Rattle.qs_core.proofs.laws.steps_are_sound.Goals as goal
 
-pub returns-clause-opening : goal.returns-clause-opening
-returns-clause-opening c = opening_is_sound
-
-pub returns-clause-kept : goal.returns-clause-kept
-returns-clause-kept c = sound_kept
-
-pub returns-clause-joined : goal.returns-clause-joined
-returns-clause-joined c = empty_view_keeps_sound
-
-pub returns-clause-exclusive : goal.returns-clause-exclusive
-returns-clause-exclusive c = sound_is_exclusive
-
-pub returns-clause-in_order : goal.returns-clause-in_order
-returns-clause-in_order c = sound_is_in_order
-
-pub returns-clause-done : goal.returns-clause-done
-returns-clause-done c = steps_change_done
-
-pub returns-clause-released : goal.returns-clause-released
-returns-clause-released c = released_means_none
-
-pub returns-clause-counted : goal.returns-clause-counted
-returns-clause-counted c = unreleased_are_counted
+pub returns : goal.returns
+returns c = record {
+  opening = opening_is_sound;
+  kept = sound_kept;
+  joined = empty_view_keeps_sound;
+  exclusive = sound_is_exclusive;
+  in_order = sound_is_in_order;
+  done = steps_change_done;
+  released = released_means_none;
+  counted = unreleased_are_counted;
+}

@@ -1,6 +1,6 @@
 use Rattle.std.proofs.Common.{ap}
 use Rattle.qs_core.specs.declared.tests.Marks.{Marks}
-use Rattle.qs_core.specs.Family.{done_by}
+use Rattle.qs_core.specs.inner.Family.{done_by}
 use Rattle.qs_core.proofs.FamilyShape.{fresh_is_ready}
 use Rattle.qs_core.proofs.tests.a_task_marks_its_leaf.Goals as goal
 

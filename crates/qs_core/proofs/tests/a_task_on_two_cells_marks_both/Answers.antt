@@ -1,6 +1,6 @@
 use Rattle.std.proofs.Common.{ap}
 use Rattle.qs_core.specs.declared.tests.Marks.{Marks}
-use Rattle.qs_core.specs.Family.{done_by}
+use Rattle.qs_core.specs.inner.Family.{done_by}
 use Rattle.qs_core.proofs.FamilyShape.{both_before, none_before}
 use Rattle.qs_core.proofs.tests.a_task_on_two_cells_marks_both.Goals as goal
 

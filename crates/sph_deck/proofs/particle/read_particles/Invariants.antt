@@ -1,7 +1,7 @@
 use Rattle.std.proofs.Common.{◌≡◌, map, None, take}
 use Rattle.toml.specs.View.{view}
-use Rattle.sph_deck.specs.Meets.{Meets}
-use Rattle.sph_deck.specs.Rows.{AreElementsRead, HasElementFault}
+use Rattle.sph_deck.specs.inner.Meets.{Meets}
+use Rattle.sph_deck.specs.inner.Rows.{AreElementsRead, HasElementFault}
 use Rattle.sph_deck.proofs.particle.read_particles.Given as goal
 
 abbrev pub invariant-loop-i : goal.invariant-loop-i

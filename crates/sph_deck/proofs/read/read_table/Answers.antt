@@ -1,7 +1,7 @@
 use Rattle.std.proofs.Common.{None}
 use Rattle.toml.specs.View.{table_view}
 use Rattle.sph_deck.specs.Faults.{StandsInTable}
-use Rattle.sph_deck.specs.Meets.{Meets}
+use Rattle.sph_deck.specs.inner.Meets.{Meets}
 use Rattle.sph_deck.proofs.Parts.{table_met}
 use Rattle.sph_deck.proofs.Tables.{table_read}
 use Rattle.sph_deck.proofs.Walks.{first_met, none_before, none_met}

@@ -2,7 +2,7 @@ use Rattle.std.proofs.Common.{String, Global, string_bytes, rules, tests}
 use Rattle.std.proofs.lemmas.Iterator.{cases_from_any}
 use Rattle.std.proofs.lemmas.Iterator.Consumers.{YieldsList-from_rest}
 use Rattle.std.specs.Map.{keys_of}
-use Rattle.sph_deck.specs.Row.{IsKnownName, IsUnknownName}
+use Rattle.sph_deck.specs.inner.Row.{IsKnownName, IsUnknownName}
 use Rattle.sph_deck.proofs.Names.{names_from_any}
 use Rattle.sph_deck.proofs.row.has_unknown_name.Goals as goal
 

@@ -1,5 +1,5 @@
 use Rattle.std.proofs.Common.{◌≡◌, map, take}
-use Rattle.sph_plain.specs.Bodies.{body_at}
+use Rattle.sph_plain.specs.inner.Bodies.{body_at}
 use Rattle.sph_plain.proofs.step.bodies_at.Given as goal
 
 abbrev pub invariant-loop-particle : goal.invariant-loop-particle

@@ -1,6 +1,6 @@
 use Rattle.std.proofs.Common.{◌≡◌, take}
-use Rattle.sph_plain.specs.Bodies.{force_on}
+use Rattle.sph_plain.specs.inner.Bodies.{force_on}
 use Rattle.sph_plain.proofs.sums.force.Given as goal
 
 abbrev pub invariant-loop-j : goal.invariant-loop-j
-invariant-loop-j l = l.total ≡ force_on l.i (take l.j-index l.bodies)
+invariant-loop-j l = l.total ≡ force_on l.i (take l.j l.bodies)

@@ -14,7 +14,7 @@ loop-tick-preserved c =
     record {
       due = c.next_tick-tick.ensures.value.due;
       soon = omega arith;
-      before = c.in_ok-plain_step.ensures.after ∙ sym (before_step_after deck tick next at is);
+      before = c.in_ok-step.ensures.after ∙ sym (before_step_after deck tick next at is);
     }
 
 pub returns : goal.returns

@@ -2,7 +2,7 @@ use Rattle.std.proofs.Common.{◌≡◌, ◌<◌, ◌≤◌, ◌^◌, rules, sym
 use Rattle.std.specs.Prelude.{unsigned_abs}
 use Rattle.std.specs.Int.{w128}
 use Rattle.sph_snap.specs.Fields.{field, is_component}
-use Rattle.sph_snap.specs.Parts.{FailsFirst, component_field, signed_in}
+use Rattle.sph_snap.specs.inner.Parts.{FailsFirst, component_field, signed_in}
 use Rattle.sph_snap.proofs.FieldsRead.{AreBytes, component_beyond, component_fits}
 use Rattle.sph_snap.proofs.Fit.{FailsFirst-short, Gives-fault}
 use Rattle.sph_snap.proofs.field.component_at.Goals as goal

@@ -1,6 +1,6 @@
 use Rattle.std.proofs.Common.{◌≡◌, ◌+◌, ◌∙◌, ◌++◌, rules, to_z, of_z}
 use Rattle.std.specs.Int.{w128}
-use Rattle.sph_snap.specs.Parts.{component_field, momentum_fields, momentum_in}
+use Rattle.sph_snap.specs.inner.Parts.{component_field, momentum_fields, momentum_in}
 use Rattle.sph_snap.proofs.FieldsRead.{momentum_fits}
 use Rattle.sph_snap.proofs.Fit.{Gives-fault, fails_behind, fails_here}
 use Rattle.sph_snap.proofs.field.momentum_at.Goals as goal

@@ -1,24 +1,8 @@
-use Rattle.std.proofs.Common.{subst, sym}
-use Rattle.sph_snap.specs.Fields.{field, between}
-use Rattle.sph_snap.specs.Parts.{FailsFirst, number_field, number_in}
-use Rattle.sph_snap.proofs.FieldsRead.{number_beyond, number_fits}
-use Rattle.sph_snap.proofs.Fit.{FailsFirst-short, Gives-fault}
+use Rattle.sph_snap.specs.inner.Parts.{number_field, number_in}
+use Rattle.sph_snap.proofs.Fit.{Gives-fault}
 use Rattle.sph_snap.proofs.field.number_at.Goals as goal
 
-pub returns-in_err-bytes_at : goal.returns-in_err-bytes_at
-returns-in_err-bytes_at c =
-    let bytes = c.args.bytes.now in
-    let fields = number_field c.args.at 4 c.args.least c.args.greatest in
-    let cut = FailsFirst-short bytes (field c.args.at 4 (between c.args.least c.args.greatest)) c.in_err-bytes_at.ensures.0 in
-    Gives-fault bytes fields (number_in bytes c.args.at 4) c.from_residual.result c.in_err-bytes_at.field-0.0 c.from_residual.ensures.1
-    (subst (FailsFirst bytes fields) (sym c.in_err-bytes_at.ensures.1) cut)
-
-pub returns-then-n-least : goal.returns-then-n-least
-returns-then-n-least c =
-    number_beyond c.args.bytes.now c.in_ok-bytes_at.field-0.now c.args.at 4 c.args.least c.args.greatest c.read_u32-n.result
-    c.in_ok-bytes_at.ensures.0 c.in_ok-bytes_at.ensures.1 c.read_u32-n.ensures c.then-n-least.either
-
-pub returns : goal.returns
-returns c =
-    number_fits c.args.bytes.now c.in_ok-bytes_at.field-0.now c.args.at 4 c.args.least c.args.greatest c.read_u32-n.result
-    c.in_ok-bytes_at.ensures.0 c.in_ok-bytes_at.ensures.1 c.read_u32-n.ensures c.if-n-least.false c.if-n-greatest.false
+pub returns-in_err-n : goal.returns-in_err-n
+returns-in_err-n c =
+    Gives-fault c.args.bytes.now (number_field c.args.at 4 c.args.least c.args.greatest) (number_in c.args.bytes.now c.args.at 4) c.from_residual.result c.in_err-n.field-0.0 c.from_residual.ensures.1
+    (rw (← c.from.ensures, ← c.from-2.ensures) c.in_err-n.ensures.read)

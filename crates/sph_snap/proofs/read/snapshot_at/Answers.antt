@@ -1,7 +1,7 @@
 use Rattle.std.proofs.Common.{inr}
 use Rattle.sph_snap.specs.declared.snapshot.Snapshot.{Snapshot}
 use Rattle.sph_snap.specs.Fields.{snapshot_fields}
-use Rattle.sph_snap.specs.Parts.{snapshot_in}
+use Rattle.sph_snap.specs.inner.Parts.{snapshot_in}
 use Rattle.sph_snap.proofs.Fit.{GivesInRoom-fault}
 use Rattle.sph_snap.proofs.SnapshotsRead.{count_fails, snapshot_fits, snapshot_rows_fail, tick_fails}
 use Rattle.sph_snap.proofs.read.snapshot_at.Goals as goal

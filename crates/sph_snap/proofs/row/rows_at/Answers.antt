@@ -3,7 +3,7 @@ use Rattle.std.specs.declared.alloc.Global.{Global}
 use Rattle.std.specs.declared.vec.Vec.{Vec}
 use Rattle.sph_snap.specs.declared.snapshot.SnapRow.{SnapRow}
 use Rattle.sph_snap.specs.Fields.{rows_fields}
-use Rattle.sph_snap.specs.Parts.{rows_in}
+use Rattle.sph_snap.specs.inner.Parts.{rows_in}
 use Rattle.sph_snap.proofs.Fit.{GivesInRoom-fault}
 use Rattle.sph_snap.proofs.RowsRead.{rows_all, rows_fail, rows_more}
 use Rattle.sph_snap.proofs.row.rows_at.Goals as goal

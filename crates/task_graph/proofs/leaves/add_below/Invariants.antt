@@ -1,5 +1,5 @@
 use Rattle.std.proofs.Common.{slice_index}
-use Rattle.task_graph.specs.LeafLists.{AddsWithin}
+use Rattle.task_graph.specs.inner.LeafLists.{AddsWithin}
 use Rattle.task_graph.proofs.leaves.add_below.Given as goal
 
 abbrev pub invariant-loop-place : goal.invariant-loop-place

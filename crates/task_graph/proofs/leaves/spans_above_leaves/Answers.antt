@@ -1,7 +1,7 @@
 use Rattle.std.proofs.Common.{◌≡◌, ◌+◌, length, sym, ap, ◌∙◌, subst, arith}
-use Rattle.sph_num.proofs.Members.{written_back}
-use Rattle.task_graph.specs.LeafLists.{AddsSpan}
-use Rattle.task_graph.specs.Parts.{span_at}
+use Rattle.lists.proofs.Elements.{written_back}
+use Rattle.task_graph.specs.inner.LeafLists.{AddsSpan}
+use Rattle.task_graph.specs.inner.Parts.{span_at}
 use Rattle.task_graph.proofs.SpanLists.{AreListsTo, AreListsTo-more, AreListsTo-all}
 use Rattle.task_graph.proofs.leaves.spans_above_leaves.Goals as goal
 

@@ -1,5 +1,5 @@
 use Rattle.std.proofs.Common.{ℕ, List}
-use Rattle.task_graph.specs.LeafLists.{AreCountsOf}
+use Rattle.task_graph.specs.inner.LeafLists.{AreCountsOf}
 use Rattle.task_graph.proofs.SpanLists.{AreListsTo}
 use Rattle.task_graph.proofs.leaves.spans_above_leaves.Given as goal
 

@@ -1,9 +1,9 @@
 use Rattle.std.proofs.Common.{◌≡◌, ◌+◌, length, refl, ap, ◌∙◌, arith}
 use Rattle.std.proofs.lemmas.List.{get_or_default, take_all}
+use Rattle.lists.proofs.Ranges.{by_numbers}
 use Rattle.task_weight.proofs.GreatestPaths.{after_below}
 use Rattle.task_graph.specs.Graph.{edges_into}
 use Rattle.task_graph.proofs.EdgeCounts.{edges_into-le}
-use Rattle.task_graph.proofs.NumberedLists.{by_numbers}
 use Rattle.task_graph.proofs.waits.waits_of.Goals as goal
 
 pub count-requires-clause-within : goal.count-requires-clause-within

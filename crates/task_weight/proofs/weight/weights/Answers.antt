@@ -1,6 +1,6 @@
 use Rattle.std.proofs.Common.{◌≡◌, ℕ, ◌+◌, ◌-◌, ◌<◌, List, length, get_or, ap, ◌∙◌, arith}
 use Rattle.task_weight.specs.Paths.{after_of, greatest_weight}
-use Rattle.task_weight.proofs.GreatestPaths.{AreFrom-more, after_below, weight_next-le}
+use Rattle.task_weight.proofs.GreatestPaths.{AreFrom-more, after_below, weight_next-le, weights_within}
 use Rattle.task_weight.proofs.WeightsWithin.{weights_of-only}
 use Rattle.task_weight.proofs.weight.weights.Goals as goal
 
@@ -38,4 +38,10 @@ pub returns-clause-value : goal.returns-clause-value
 returns-clause-value c =
     let from = c.loop-task.invariant in
     weights_of-only c.args.costs.now c.args.edges.now c.requires.one_each c.requires.forward c.loop-task.weights.items
+    (record { one_each = from.one_each; each = λ task below. from.each task (omega arith) below })
+
+pub returns-clause-within : goal.returns-clause-within
+returns-clause-within c =
+    let from = c.loop-task.invariant in
+    weights_within c.args.costs.now c.args.edges.now c.loop-task.weights.items c.requires.one_each c.requires.forward
     (record { one_each = from.one_each; each = λ task below. from.each task (omega arith) below })

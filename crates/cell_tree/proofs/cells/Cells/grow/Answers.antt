@@ -1,7 +1,8 @@
 use Rattle.std.proofs.Common.{length, sym, ap, ◌∙◌, subst, arith}
-use Rattle.cell_tree.specs.Nodes.{cell_over, IsSound}
+use Rattle.std.proofs.lemmas.List.FromFn.{length-range_with_len}
+use Rattle.cell_tree.specs.inner.Nodes.{cell_over, IsSound}
 use Rattle.cell_tree.specs.Tree.{made_of, root_cube}
-use Rattle.cell_tree.proofs.Members.{IsSound-root, length-numbers_from}
+use Rattle.cell_tree.proofs.Members.{IsSound-root}
 use Rattle.cell_tree.proofs.cells.Cells.grow.Goals as goal
 
 pub grow-requires-clause-sound : goal.grow-requires-clause-sound
@@ -11,5 +12,5 @@ grow-requires-clause-sound c =
 
 pub grow-requires-clause-short : goal.grow-requires-clause-short
 grow-requires-clause-short c =
-    let n = ap length (c.deref_mut.ensures.value ∙ c.in_ok-order.ensures) ∙ length-numbers_from 0 (length c.args.points.now) in
+    let n = ap length (c.deref_mut.ensures.value ∙ c.in_ok-order.ensures) ∙ length-range_with_len 0 (length c.args.points.now) in
     omega (arith, c.requires.not_too_many)

@@ -1,7 +1,7 @@
 use Rattle.std.proofs.Common.{◌≡◌, ◌+◌, ◌-◌, ◌≤◌, length, take, drop, ap, ◌∙◌, subst, arith, rules}
 use Rattle.cell_tree.specs.declared.node.Node.{Node}
-use Rattle.cell_tree.specs.Nodes.{members_in}
-use Rattle.cell_tree.specs.Parts.{IsGrown}
+use Rattle.cell_tree.specs.inner.Nodes.{members_in}
+use Rattle.cell_tree.specs.inner.Parts.{IsGrown}
 use Rattle.cell_tree.specs.Tree.{cells_of, cell_at}
 use Rattle.cell_tree.proofs.Orders.{node_at, leaf_run, leaf_run_end}
 use Rattle.cell_tree.proofs.cells.Cells.members.Goals as goal

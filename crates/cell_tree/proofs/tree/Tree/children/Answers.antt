@@ -1,5 +1,5 @@
 use Rattle.std.proofs.Common.{subst}
-use Rattle.cell_tree.specs.Parts.{IsTree}
+use Rattle.cell_tree.specs.inner.Parts.{IsTree}
 use Rattle.cell_tree.proofs.TreeLists.{children_read}
 use Rattle.cell_tree.proofs.tree.Tree.children.Goals as goal
 

@@ -8,4 +8,4 @@ use Rattle.cell_tree.proofs.tree.Tree.cube.Goals as goal
 pub returns-clause-cube : goal.returns-clause-cube
 returns-clause-cube c =
     let l = subst (λ m. c.args.cell < length (cells_of m)) (sym c.self.view_is) c.requires in
-    subst (λ (n : Node). IsCube n.cube) (sym c.node.ensures.value) (sound_at c.self.inside.cells c.self.invariant.can c.args.cell l).in_box
+    subst (λ (n : Node). IsCube n.cube) (sym c.node.ensures.value) (sound_at c.self.inside.cells c.self.invariant.can c.args.cell l).held.in_box

@@ -1,5 +1,5 @@
 use Rattle.std.proofs.Common.{subst, arith}
-use Rattle.cell_tree.specs.Parts.{IsTree}
+use Rattle.cell_tree.specs.inner.Parts.{IsTree}
 use Rattle.cell_tree.proofs.TreeLists.{parent_read}
 use Rattle.cell_tree.proofs.tree.Tree.parent.Goals as goal
 

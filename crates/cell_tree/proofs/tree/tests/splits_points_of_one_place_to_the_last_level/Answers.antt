@@ -1,4 +1,4 @@
-use Rattle.std.proofs.Common.{◌<◌, ◌≤◌, [], ◌∷◌, arith}
+use Rattle.std.proofs.Common.{[], ◌∷◌, arith}
 use Rattle.cell_tree.proofs.OnePlace.{IsPlace-corner, one_place}
 use Rattle.cell_tree.proofs.tree.tests.splits_points_of_one_place_to_the_last_level.Goals as goal
 

@@ -1,10 +1,10 @@
 use Rattle.std.proofs.Common.{◌≡◌, ◌||◌, Bool, true, List, sym, ap, ◌∙◌, rules}
 use Rattle.std.proofs.lemmas.Bool.{or_left, or_right}
+use Rattle.cell_geom.specs.Gap.{gap2_of}
 use Rattle.cell_geom.specs.declared.cube.Cube.{Cube}
 use Rattle.cell_tree.specs.Due.{has_due, AreDueBefore}
 use Rattle.cell_tree.specs.Tree.{cell_at}
-use Rattle.pair_cover.specs.Looks.{reach_of_two, gap2_of}
-use Rattle.pair_cover.proofs.GapOfCubes.{gap2_is}
+use Rattle.pair_cover.specs.Looks.{reach_of_two}
 use Rattle.pair_cover.proofs.LookSteps.{drops_from_gap}
 use Rattle.pair_cover.proofs.looks.Look.drops.Goals as goal
 use Rattle.pair_cover.proofs.looks.Look.drops.Goals.{After-gap2, else-not-has_due-via-then-not-has_due+else-not-has_due-2, else-not-has_due-via-else-not-has_due}
@@ -25,8 +25,8 @@ returns c =
     let look = c.args.self.now in
     let made = look.tree.now in
     let reach : c.from-reach.result ≡ reach_of_two made c.args.a c.args.b = search rules in
-    let gap : gap2_of (cell_at made c.args.a).cube (cell_at made c.args.b).cube look.limits.slack ≡ c.gap2.result =
-    ap (λ (q : Cube). gap2_of q (cell_at made c.args.b).cube look.limits.slack) (sym c.cube.ensures.value)
-    ∙ ap (λ (q : Cube). gap2_of c.cube.result q look.limits.slack) (sym c.cube-2.ensures.value)
-    ∙ gap2_is c.cube.result c.cube-2.result look.limits.slack c.gap2.result c.cube.ensures.cube c.cube-2.ensures.cube c.gap2.ensures.value in
+    let gap : c.gap2.result ≡ gap2_of (cell_at made c.args.a).cube (cell_at made c.args.b).cube look.limits.slack =
+    c.gap2.ensures.value
+    ∙ ap (λ (q : Cube). gap2_of q c.cube-2.result look.limits.slack) c.cube.ensures.value
+    ∙ ap (λ (q : Cube). gap2_of (cell_at made c.args.a).cube q look.limits.slack) c.cube-2.ensures.value in
     λ due counts. drops_from_gap made due look.limits c.args.a c.args.b c.from-reach.result c.gap2.result (some_due c due counts) reach gap

@@ -2,7 +2,7 @@ use Rattle.std.proofs.Common.{◌+◌, ◌-◌, length, take, drop, get_or, refl
 use Rattle.std.specs.List.{flat_map}
 use Rattle.std.proofs.lemmas.List.{take_rest}
 use Rattle.pair_cover.specs.Looks.{pair_spans, most_looks}
-use Rattle.pair_cover.specs.Steps.{Adds}
+use Rattle.pair_cover.specs.inner.Steps.{Adds}
 use Rattle.pair_cover.proofs.LookSteps.{AddsTwos-more, AddsTwos-all}
 use Rattle.pair_cover.proofs.looks.Look.each_two.Goals as goal
 

@@ -1,4 +1,4 @@
-use Rattle.std.proofs.Common.{◌<◌, ◌≤◌, [], ◌∷◌, arith}
+use Rattle.std.proofs.Common.{[], ◌∷◌, arith}
 use Rattle.cell_tree.proofs.OnePlace.{IsPlace-corner, one_place}
 use Rattle.pair_cover.proofs.spans.tests.keeps_few_pairs_together.Goals as goal
 

@@ -1,5 +1,5 @@
 use Rattle.std.proofs.Common.{◌≡◌, [], ◌∷◌, sym, ap, ◌∙◌}
-use Rattle.qs_core.specs.Held.{chains_of}
+use Rattle.qs_core.specs.inner.Held.{chains_of}
 use Rattle.qs_core.proofs.Owned.{owned_one, owned_two}
 use Rattle.qs_core.proofs.seat.Seat.owned.Goals as goal
 

@@ -1,6 +1,6 @@
 use Rattle.std.proofs.Common.{◌↔◌, subst, sym}
 use Rattle.qs_core.specs.Steps.{OwnsJust}
-use Rattle.qs_core.specs.Held.{AreJust}
+use Rattle.qs_core.specs.inner.Held.{AreJust}
 use Rattle.qs_core.proofs.Owned.{both_ways}
 use Rattle.qs_core.proofs.Just.{just_is}
 use Rattle.qs_core.proofs.seat.Seat.owns_just.Goals as goal

@@ -1,6 +1,6 @@
 use Rattle.std.proofs.Common.{ℕ, ◌<◌}
 use Rattle.qs_core.specs.Core.{view_at}
-use Rattle.qs_core.specs.Held.{RunsOn}
+use Rattle.qs_core.specs.inner.Held.{RunsOn}
 use Rattle.qs_core.proofs.state.State.is_left.Given as goal
 
 abbrev pub invariant-loop-seat : goal.invariant-loop-seat

@@ -1,5 +1,6 @@
 use Rattle.std.proofs.Common.{◌≡◌, sym, ap, subst, ◌∙◌, arith}
-use Rattle.qs_core.specs.Machine.{IsMachine, machine_of, note_of, played}
+use Rattle.qs_core.specs.Machine.{IsMachine, note_of, played}
+use Rattle.qs_core.specs.inner.Stored.{machine_of}
 use Rattle.qs_core.specs.Steps.{IsAllowed}
 use Rattle.qs_core.proofs.Played.{machine_kept, place_below, played_parts, read_view}
 use Rattle.qs_core.proofs.state.State.make.Goals as goal
@@ -31,3 +32,6 @@ returns-clause-made c =
     let parts = played_parts c.self.inside.layout c.self.inside.words.items c.self.inside.seats.items c.self.inside.notes.items c.args.event c.note_of-note.result c.place-place.result
     c.exchanged.result c.index_mut-changed.result.now c.make.new.self note c.place-place.ensures c.exchanged.ensures before c.in_ok-make.ensures.made in
     parts ∙ ap (λ x. played x c.args.event) c.self.view_is
+
+pub returns-clause-machine : goal.returns-clause-machine
+returns-clause-machine c = invariant_of-self-2 c

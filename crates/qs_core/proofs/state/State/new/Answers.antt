@@ -9,3 +9,6 @@ invariant_of-result g c =
     let is = made_of_lists shape c.in_ok-layout.layout c.args.seats c.in_ok-words.words.items c.in_ok-empty.empty.items c.in_ok-notes.notes.items c.in_ok-layout.ensures.value
     c.in_ok-words.ensures c.in_ok-empty.ensures c.in_ok-notes.ensures in
     subst IsMachine (sym is) (made_is shape c.args.seats c.of.ensures.laws)
+
+pub returns-clause-machine : goal.returns-clause-machine
+returns-clause-machine g c = invariant_of-result g c

@@ -1,7 +1,7 @@
 use Rattle.std.proofs.Common.{◌≡◌, ◌⊎◌, ◌↔◌, ℕ, Contains, subst, arith}
 use Rattle.qs_core.specs.declared.tests.Marks.{Marks}
 use Rattle.qs_core.specs.Blocks.{first_leaves, second_leaves}
-use Rattle.qs_core.specs.Family.{done_by, family}
+use Rattle.qs_core.specs.inner.Family.{done_by, family}
 use Rattle.qs_core.proofs.FamilyShape.{leaves_of_first, leaves_of_second, one_added}
 use Rattle.qs_core.proofs.tests.FamilyWork.apply.Goals as goal
 
