@@ -33,6 +33,7 @@ TOP_FILE, TOP_CALL = ROOT / "crates/sph_top/src/answer.rt", "swiftq"
 # The parts of the page, by crates. A crate that none of them names belongs to the first.
 PARTS = {
     "What all parts share": "",
+    "The words": "sph_words",
     "The stream": "sph_num sph_bins sph_plain sph_snap sph_run",
     "The deck and its faults": "sph_deck",
     "The tree and graph": "cell_geom cell_tree pair_cover task_weight task_graph qs_core",

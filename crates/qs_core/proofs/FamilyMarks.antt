@@ -1,7 +1,7 @@
 -- What marking a task adds to the tasks that three marks say are done.
 use Rattle.std.proofs.Common.{◌≡◌, ◌⊎◌, ◌↔◌, ℕ, Bool, true, false, [], ◌∷◌, ◌++◌, Contains, sym, inl, inr, arith}
 use Rattle.lists.proofs.Elements.{Contains-append, Contains-nil, only}
-use Rattle.qs_core.specs.inner.Family.{done_by, where_set}
+use Rattle.qs_core.specs.Family.{done_by, where_set}
 
 -- the one mark or the other or the third
 in_marks : (a b c : Bool) (t : ℕ) → Contains (done_by a b c) t ↔ ((Contains (where_set a 0) t ⊎ Contains (where_set b 1) t) ⊎ Contains (where_set c 2) t)

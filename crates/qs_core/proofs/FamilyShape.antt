@@ -7,7 +7,7 @@ use Rattle.lists.proofs.Counts.{count-zero, one_if-le, one_if-other}
 use Rattle.lists.proofs.Elements.{Contains-nil, either, only}
 use Rattle.qs_core.specs.Shape.{Shape, AreApart, IsShape, IsCellShape, IsTaskShape, Precedes, Touches, CellContains, HaveOwnLeaves, ancestors, leaves_of, range_of}
 use Rattle.qs_core.specs.Blocks.{AreAdded, AreReady, IsAdded, IsReady, first_leaves, second_leaves}
-use Rattle.qs_core.specs.inner.Family.{family, task_0, tasks_where}
+use Rattle.qs_core.specs.Family.{family, task_0, tasks_where}
 use Rattle.qs_core.proofs.Events.{path-up}
 
 -- cell 0 contains every cell, and cell 1 all but cell 0

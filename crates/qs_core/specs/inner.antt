@@ -1,4 +1,3 @@
--- Definitions between private functions, in a public type's view over its private fields, and of the tests: no public clause cites them.
+-- Definitions between private functions, in a public type's view over its private fields: no public clause cites them.
 pub mod Held
 pub mod Stored
-pub mod Family

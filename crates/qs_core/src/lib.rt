@@ -2,6 +2,7 @@
 #![tactic(auto)]
 
 mod event;
+pub mod family;
 mod laws;
 mod layout;
 mod player;

@@ -2,3 +2,4 @@ pub mod Room
 pub mod BinOf
 pub mod Steps
 pub mod Narrow
+pub mod Vectors

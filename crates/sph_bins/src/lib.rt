@@ -3,6 +3,8 @@
 
 mod bins;
 mod laws;
+mod leapfrog;
 
 pub use bins::{choose, due, next_tick};
 pub use laws::steps_keep_bounds;
+pub use leapfrog::kick;

@@ -8,4 +8,6 @@ pub mod Faults
 pub mod FirstFault
 pub mod Keys
 pub mod Agreement
+pub mod Lattice
+pub mod LatticeText
 pub mod inner

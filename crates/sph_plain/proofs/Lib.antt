@@ -5,3 +5,6 @@ pub mod Soundness
 pub mod Spots
 pub mod Totals
 pub mod Vectors
+pub mod SignedTotals
+pub mod Opposite
+pub mod Balance

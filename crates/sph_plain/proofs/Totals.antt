@@ -37,7 +37,7 @@ total_by_more f xs k d low =
 total_by_kept : {A : Type 0} (f : A → ℤ) (xs : List A) (k : ℕ) (d : A) → k < length xs → f (get_or xs k d) ≡ pos 0 → total_by f (take k xs) ≡ total_by f (take (k + 1) xs)
 total_by_kept f xs k d low none = omega (arith, ints, none, total_by_more f xs k d low)
 
-total_by-map : {A B : Type 0} (f : B → ℤ) (g : A → B) (xs : List A) → total_by f (map g xs) ≡ total_by (λ x. f (g x)) xs
+pub total_by-map : {A B : Type 0} (f : B → ℤ) (g : A → B) (xs : List A) → total_by f (map g xs) ≡ total_by (λ x. f (g x)) xs
 total_by-map f g [] = refl
 total_by-map f g (x ∷ xs) = ap (λ z. f (g x) +ℤ z) (total_by-map f g xs)
 

@@ -3,7 +3,6 @@
 
 mod body;
 mod initial;
-mod kick;
 mod laws;
 mod step;
 mod sums;
@@ -11,5 +10,5 @@ mod sums;
 mod tests;
 
 pub use initial::start;
-pub use laws::runs_stay_in_bounds;
+pub use laws::{momentum_is_kept, runs_stay_in_bounds};
 pub use step::{PlainSteps, plain_step};

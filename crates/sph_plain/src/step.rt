@@ -5,9 +5,8 @@ ghost use Rattle.sph_plain.specs.inner.Bodies.{body_at, ghost_body, spot_at, spo
 ghost use Rattle.sph_plain.specs.Run.{after, before};
 
 use crate::body::{Body, Spot, spot_of, with_ghost};
-use crate::kick::kick;
 use crate::sums::{density, force};
-use sph_bins::due;
+use sph_bins::{due, kick};
 use sph_deck::Deck;
 use sph_num::{Length, Particle, Pull, Tables, ghost_of, position};
 use std::alloc::{AllocError, Global};
@@ -147,7 +146,14 @@ fn kick_due(
         let bin = particles[i].bin;
         if due(t, bin) {
             let f = force(tables, bodies, spots, body);
-            kick(&deck.params, t, body, f, &mut particles[i]);
+            kick(
+                &deck.params,
+                t,
+                body.place,
+                f,
+                body.pull.g(),
+                &mut particles[i],
+            );
         }
     }
 }

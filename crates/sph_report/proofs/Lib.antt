@@ -1,3 +1,5 @@
 mod CheckLines
 mod DeckTrees
+mod SignedSums
+mod SummaryTexts
 mod TreeTexts

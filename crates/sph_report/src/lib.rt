@@ -3,8 +3,12 @@
 
 mod check;
 mod deck;
+mod summary;
 mod tree;
+mod words;
 
 pub use check::check_text;
 pub use deck::deck_text;
+pub use summary::summary_line;
 pub use tree::tree_text;
+pub use words::words_text;

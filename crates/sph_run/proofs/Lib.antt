@@ -3,3 +3,5 @@ pub mod Pieces
 pub mod Streams
 pub mod Rows
 pub mod Whole
+pub mod Work
+pub mod Momentum

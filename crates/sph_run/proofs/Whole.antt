@@ -11,6 +11,8 @@ use Rattle.sph_num.specs.declared.particle.Bounds.{Bounds}
 use Rattle.sph_num.specs.declared.particle.Params.{Params}
 use Rattle.sph_num.specs.declared.particle.Particle.{Particle}
 use Rattle.sph_num.specs.Bound.{bounds_of}
+use Rattle.sph_num.specs.Motion.{IsMomentum}
+use Rattle.sph_num.specs.Ranges.{most_particles}
 use Rattle.sph_bins.specs.Bins.{IsDue, IsStepTick}
 use Rattle.sph_bins.specs.InBounds.{InBounds, IsWithin}
 use Rattle.sph_bins.specs.Kick.{force_at, kicked, momentum_at}
@@ -71,6 +73,13 @@ length-after : (deck : Deck) (t : ℕ) → AreAccepted deck.params deck.particle
 unfolding after
 length-after deck t are at =
     length-next_list deck.params (before deck t) t ∙ (InBounds-before deck t are (IsStepTick-snapshot deck.params deck.particles t are at)).count
+
+-- so there are few enough of them, and their momenta are narrow
+pub few_after : (deck : Deck) (t : ℕ) → AreAccepted deck.params deck.particles → IsSnapshotTick deck.params t → length (after deck t) ≤ most_particles
+few_after deck t are at = omega (arith, length-after deck t are at, are.in_range.not_too_many)
+
+pub momenta_after : (deck : Deck) (t : ℕ) → AreAccepted deck.params deck.particles → IsSnapshotTick deck.params t → All (λ (p : Particle). IsMomentum p.q) (after deck t)
+momenta_after deck t are at = All-weaker (IsKicked t) (λ (p : Particle). IsMomentum p.q) (λ p is. is.momentum) (after deck t) (AreKicked-after deck t are at)
 
 -- the momentum of a deck's particle has a component on each axis
 abbrev HasVector : Particle → Type 0

@@ -1,68 +1,103 @@
--- The job that the words name.
-use Rattle.std.proofs.Common.{◌≡◌, List, length, get_or, Some, arith, refl, ap, ◌∙◌, sym}
-use Rattle.std.specs.Prelude.{ℕ, Option, None, MatchOption, find, map, slice_get, String, string_bytes}
-use Rattle.std.specs.Option.{option_map}
-use Rattle.std.specs.Str.{bytes_eq}
-use Rattle.std.specs.declared.alloc.Global.{Global}
-use Rattle.std.proofs.lemmas.Option.{slice_get-map, slice_get_read}
-use Rattle.std.proofs.lemmas.Slice.Eq.{bytes_eq-Decides}
-use Rattle.sph_deck.proofs.Names.{found_passes}
-use Rattle.sph_top.specs.declared.words.Job.{Job}
-use Rattle.sph_top.specs.declared.words.Job.TheVariants.{Run, Plain, Check, Tree}
-use Rattle.sph_top.specs.declared.words.TheConstants.{JOBS}
-use Rattle.sph_top.specs.Words.{NamesJob, NamesAJob, NamesNone, word_of}
+-- What the words that name a job say of it.
+use Rattle.std.proofs.Common.{◌≡◌, ◌&&◌, ℕ, Bool, true, false, List, Option, Some, None, Result, Ok, Err, refl, sym, inl, inr, cond, map, string_bytes, String, Global, true≢false, subst}
+use Rattle.std.specs.Prelude.{option_and_then}
+use Rattle.std.proofs.lemmas.Bool.{leb-true}
+use Rattle.sph_deck.specs.Lattice.{IsSide}
+use Rattle.sph_top.specs.Words.{HasWordsFault, NamesAJob, NamesAReader, NamesJob, reads_deck}
+use Rattle.sph_top.specs.inner.Steps.{HasSide}
+use Rattle.sph_words.specs.Jobs.{AnswersWords, asked, is_within, job_with, judged, judged_or_usage, told, with_side, with_workers}
+use Rattle.sph_words.specs.Texts.{texts_of}
+use Rattle.sph_words.specs.declared.fault.WordsFault.{WordsFault}
+use Rattle.sph_words.specs.declared.fault.WordsFault.TheVariants.{Workers, Side}
+use Rattle.sph_words.specs.declared.fault.WordsRefusal.{WordsRefusal}
+use Rattle.sph_words.specs.declared.fault.WordsRefusal.TheVariants.{Fault}
+use Rattle.sph_words.specs.declared.job.Job.{Job}
+use Rattle.sph_words.specs.declared.job.Job.TheVariants.{Run, Plain, Check, Tree, Generate, Sample}
 
--- the second of two words, as a test reads it
-second_word : (words : List (String Global)) (word : String Global) → length words ≡ 2 → word ≡ get_or words 1 word
-    → slice_get (map string_bytes words) 1 ≡ Some (string_bytes word)
-second_word words word two is =
-    let read : slice_get words 1 ≡ Some word = slice_get_read words (length words) 1 word refl (omega arith) is in
-    slice_get-map string_bytes words 1 ∙ ap (option_map string_bytes) read
+-- ---- what `read_words` answers
 
--- two words name a job just where the second is its word
-pub NamesJob-second : (words : List (String Global)) (word : String Global) (job : Job) → length words ≡ 2 → word ≡ get_or words 1 word
-    → (string_bytes word ≡ word_of job → NamesJob words job) × (NamesJob words job → string_bytes word ≡ word_of job)
-NamesJob-second words word job two is =
-    let second = second_word words word two is in
-    (λ same. record { two = two; word = second ∙ ap Some same }, λ names. let named = names.word in cc)
+told_job : (answer : Result Job WordsFault) (job : Job) → Ok job ≡ told answer → answer ≡ Ok job
+told_job (Ok other) job is = let same : job ≡ other = cc in cc
+told_job (Err fault) job is = cc
 
--- the job with this word
-job_with : List ℕ → Option Job
-job_with word = find (λ job. bytes_eq (word_of job) word) JOBS
+told_fault : (answer : Result Job WordsFault) (fault : WordsFault) → Err (Fault fault) ≡ told answer → answer ≡ Err fault
+told_fault (Ok job) fault is = cc
+told_fault (Err other) fault is = let same : fault ≡ other = cc in cc
 
--- each job is that with its word
-job_with-word_of : (job : Job) → job_with (word_of job) ≡ Some job
-unfolding job_with
-job_with-word_of Run = refl
-job_with-word_of Plain = refl
-job_with-word_of Check = refl
-job_with-word_of Tree = refl
+pub named : (words : List (String Global)) (result : Result Job WordsRefusal) (job : Job) → AnswersWords (map string_bytes words) result → result ≡ Ok job → NamesJob words job
+named words result job (inl is) ok = told_job (asked (map string_bytes words)) job (let same = sym ok in cc)
+named words result job (inr is) ok = cc
 
--- the job with a word has that word
-word_of-job_with : (word : List ℕ) (job : Job) → job_with word ≡ Some job → word_of job ≡ word
-unfolding job_with
-word_of-job_with word job found = (bytes_eq-Decides (word_of job) word).0 (found_passes (λ j. bytes_eq (word_of j) word) JOBS job found)
+pub faulty : (words : List (String Global)) (result : Result Job WordsRefusal) (fault : WordsFault) → AnswersWords (map string_bytes words) result
+    → result ≡ Err (Fault fault) → HasWordsFault words fault
+faulty words result fault (inl is) err = told_fault (asked (map string_bytes words)) fault (let same = sym err in cc)
+faulty words result fault (inr is) err = cc
 
--- the second of the words that name a job has just this job
-job_with-second : (words : List (String Global)) (word : String Global) (job : Job) → length words ≡ 2 → word ≡ get_or words 1 word
-    → NamesJob words job → job_with (string_bytes word) ≡ Some job
-job_with-second words word job two is names =
-    let same = (NamesJob-second words word job two is).1 names in
-    ap job_with same ∙ job_with-word_of job
+-- words that name a job have no fault
+pub named_no_fault : (words : List (String Global)) (fault : WordsFault) → NamesAJob words → HasWordsFault words fault → ⊥
+named_no_fault words fault job has = let is = job.1 in cc
 
--- two words name the job with the second one, and none where there is no such job
-named_with : (words : List (String Global)) (word : String Global) (found : Option Job) → length words ≡ 2 → word ≡ get_or words 1 word
-    → job_with (string_bytes word) ≡ found → MatchOption found (NamesNone words) (NamesJob words)
-named_with words word None two is with_none = λ job names. let some = job_with-second words word job two is names in cc
-named_with words word (Some job) two is with_job =
-    (NamesJob-second words word job two is).0 (sym (word_of-job_with (string_bytes word) job with_job))
+pub reader_names : (words : List (String Global)) → NamesAReader words → NamesAJob words
+reader_names words reader = (reader.0, reader.1)
 
--- the same for the second word as a text
-pub named_second : (words : List (String Global)) (word : String Global) (text : List ℕ) (found : Option Job) → length words ≡ 2 → word ≡ get_or words 1 word
-    → text ≡ string_bytes word → found ≡ find (λ job. bytes_eq (word_of job) text) JOBS → MatchOption found (NamesNone words) (NamesJob words)
-unfolding job_with
-named_second words word text found two is same found_is = named_with words word found two is (ap job_with (sym same) ∙ sym found_is)
+-- words that name one job name no other
+pub same_job : (words : List (String Global)) (job other : Job) → NamesJob words job → NamesJob words other → job ≡ other
+same_job words job other is also = cc
 
--- words that name a job aren't words that name none
-pub named_not_none : (words : List (String Global)) → NamesAJob words → NamesNone words → ⊥
-named_not_none words job none = none job.0 job.1
+pub same_fault : (words : List (String Global)) (fault other : WordsFault) → HasWordsFault words fault → HasWordsFault words other → fault ≡ other
+same_fault words fault other is also = cc
+
+-- where no job that reads a deck is named, this one reads none
+pub reads_none : (words : List (String Global)) (job : Job) → NamesJob words job → (NamesAReader words → ⊥) → reads_deck job ≡ false
+reads_none words job names none = go (reads_deck job) refl
+  where
+    go : (b : Bool) → reads_deck job ≡ b → b ≡ false
+    go false is = refl
+    go true is = absurd (none (job, names, is))
+
+-- ---- a side is within its range
+
+bools : (a b : Bool) → (a && b) ≡ true → (a ≡ true) × (b ≡ true)
+bools true b is = (refl, is)
+bools false b is = absurd (true≢false (sym is))
+
+-- what is behind a test of workers, and of a side
+behind_workers : (n : ℕ) (next : Result Job WordsFault) (job : Job) → with_workers n next ≡ Ok job → next ≡ Ok job
+behind_workers n next job = go (is_within 1 64 n)
+  where
+    go : (b : Bool) → cond b next (Err (Workers n)) ≡ Ok job → next ≡ Ok job
+    go true is = is
+    go false is = cc
+
+behind_side : (n : ℕ) (next : Result Job WordsFault) (job : Job) → with_side n next ≡ Ok job → IsSide n × (next ≡ Ok job)
+behind_side n next job = go (is_within 1 32 n) refl
+  where
+    go : (b : Bool) → is_within 1 32 n ≡ b → cond b next (Err (Side n)) ≡ Ok job → IsSide n × (next ≡ Ok job)
+    go true range is =
+        let parts = bools _ _ range in
+        (record { low = leb-true 1 n parts.0; high = leb-true n 32 parts.1 }, is)
+    go false range is = cc
+
+side_judged : (line job : Job) → judged line ≡ Ok job → HasSide job
+side_judged (Run workers) job is =
+    let same : job ≡ Run workers = let next = behind_workers workers (Ok (Run workers)) job is in cc in
+    subst HasSide (sym same) tt
+side_judged Plain job is = let same : job ≡ Plain = cc in subst HasSide (sym same) tt
+side_judged Check job is = let same : job ≡ Check = cc in subst HasSide (sym same) tt
+side_judged Tree job is = let same : job ≡ Tree = cc in subst HasSide (sym same) tt
+side_judged (Generate side seed) job is =
+    let next = behind_side side (Ok (Generate side seed)) job is in
+    let same : job ≡ Generate side seed = let ok = next.1 in cc in
+    subst HasSide (sym same) next.0
+side_judged (Sample side seed workers) job is =
+    let next = behind_side side (Ok (Sample side seed workers)) job (behind_workers workers (with_side side (Ok (Sample side seed workers))) job is) in
+    let same : job ≡ Sample side seed workers = let ok = next.1 in cc in
+    subst HasSide (sym same) next.0
+
+side_of_line : (line : Option Job) (job : Job) → judged_or_usage line ≡ Ok job → HasSide job
+side_of_line None job is = cc
+side_of_line (Some line) job is = side_judged line job is
+
+-- the side of a job that is named is within its range
+pub has_side : (words : List (String Global)) (job : Job) → NamesJob words job → HasSide job
+has_side words job names = side_of_line (option_and_then job_with (texts_of (map string_bytes words))) job names

@@ -3,23 +3,22 @@ use Rattle.std.proofs.Common.{◌≡◌, List, refl, sym, ◌∙◌, subst, inl,
 use Rattle.std.specs.Prelude.{String}
 use Rattle.std.specs.declared.alloc.Global.{Global}
 use Rattle.std.specs.Io.KnownBytes.{Appends}
-use Rattle.sph_deck.specs.declared.fault.DeckFault.{DeckFault}
 use Rattle.sph_edge.specs.Causes.{Stayed}
 use Rattle.sph_top.specs.declared.status.Status.{Status}
-use Rattle.sph_top.specs.declared.status.Status.TheVariants.{Done, DeckRefused, WriteFault, NoMemory}
-use Rattle.sph_top.specs.Answers.{Seen, IsDone, AppendsSome, IsWithoutOutput, Rests, TellsWriteFault, Yields}
+use Rattle.sph_top.specs.declared.status.Status.TheVariants.{Done, WriteFault, NoMemory}
+use Rattle.sph_top.specs.Answers.{Seen, AppendsSome, IsWithoutOutput, Rests, TellsWriteFault, Yields}
 use Rattle.sph_top.specs.Lines.{error_line}
-use Rattle.sph_top.specs.inner.Steps.{IsTold, Reports}
-use Rattle.sph_top.proofs.Rest.{AppendsSome-rests, NoMemory-refused, stayed_not_rose}
+use Rattle.sph_top.specs.inner.Steps.{HasMadeLine, IsTold, Reports}
+use Rattle.sph_top.proofs.Rest.{AppendsSome-rests, NoMemory-made, stayed_not_rose}
 
--- the answer whose line was written: the one before it, or NoMemory where a deck was refused
+-- the answer whose line was written: the one before it, or NoMemory where that line takes memory
 record WasSaid (status said result : Status) (err err' : Seen) : Type 0 where
-  pub which : (said ≡ status) ⊎ ((fault : DeckFault) × (status ≡ DeckRefused fault) × (said ≡ NoMemory))
+  pub which : (said ≡ status) ⊎ (HasMadeLine status × (said ≡ NoMemory))
   pub told : IsTold said result err err'
 
 WasSaid-reports : (status result : Status) (err err' : Seen) → Reports status result err err' → (said : Status) × WasSaid status said result err err'
 WasSaid-reports status result err err' (inl told) = (status, record { which = inl refl; told = told })
-WasSaid-reports status result err err' (inr failed) = (NoMemory, record { which = inr (failed.0, failed.1, refl); told = failed.2 })
+WasSaid-reports status result err err' (inr failed) = (NoMemory, record { which = inr (failed.0, refl); told = failed.1 })
 
 module _ (status result : Status) (err err' : Seen) (reports : Reports status result err err') where
   -- the answer is the wanted one, where it was before its line was written
@@ -28,7 +27,7 @@ module _ (status result : Status) (err err' : Seen) (reports : Reports status re
       let s = WasSaid-reports status result err err' reports in
       let said : (s.0 ≡ wanted) ⊎ (s.0 ≡ NoMemory) = elim s.1.which [
         | inl e ↦ elim was [ inl w ↦ inl (e ∙ w) | inr w ↦ inr (e ∙ w) ]
-        | inr e ↦ inr e.2
+        | inr e ↦ inr e.1
       ] in
       elim s.1.told [
         | inl t ↦ elim said [ inl e ↦ inl (t.0 ∙ e) | inr e ↦ inr (inl (t.0 ∙ e)) ]
@@ -46,10 +45,10 @@ module _ (status result : Status) (err err' : Seen) (reports : Reports status re
 -- What follows from the answer whose line was written.
 module _ (said result : Status) (err err' : Seen) (told : IsTold said result err err') where
   module _ (words : List (String Global)) (source source' out out' : Seen) (rests : Rests said words source source' out out') where
-    done_said : result ≡ Done → IsDone words source source' out out'
-    done_said e = elim told [
+    rests_said : (wanted : Status) → (wanted ≡ WriteFault → ⊥) → result ≡ wanted → Rests wanted words source source' out out'
+    rests_said wanted other e = elim told [
       | inl t ↦ subst (λ s. Rests s words source source' out out') (sym t.0 ∙ e) rests
-      | inr t ↦ let no = t.1 in cc
+      | inr t ↦ absurd (other (sym e ∙ t.1))
     ]
 
     output_said : (IsWithoutOutput said → out' ≡ out) → result ≡ WriteFault → AppendsSome words source source' out out'
@@ -61,7 +60,7 @@ module _ (said result : Status) (err err' : Seen) (told : IsTold said result err
     line_said : result ≡ WriteFault → TellsWriteFault words source source' out out' err err'
     line_said e = elim told [
       | inl t ↦ let was = sym t.0 ∙ e in
-          inl ((subst (λ s. Rests s words source source' out out') was rests).3, subst (λ s. Appends err.bytes err'.bytes (error_line s)) was t.1)
+          inl ((subst (λ s. Rests s words source source' out out') was rests).2, subst (λ s. Appends err.bytes err'.bytes (error_line s)) was t.1)
       | inr t ↦ inr (t.2, said, t.0, rests, t.3)
     ]
 
@@ -72,17 +71,15 @@ module _ (status result : Status) (err err' : Seen) (reports : Reports status re
   Rests-said said was = elim was.which [
     | inl e ↦ subst (λ s. Rests s words source source' out out' × (IsWithoutOutput s → out' ≡ out)) (sym e) (rests, same)
     | inr e ↦
-        let untouched = subst (λ s. IsWithoutOutput s → out' ≡ out) e.1 same tt in
-        let refused = subst (λ s. Rests s words source source' out out') e.1 rests in
-        subst (λ s. Rests s words source source' out out' × (IsWithoutOutput s → out' ≡ out)) (sym e.2)
-        (NoMemory-refused e.0 words source source' out out' untouched refused, λ w. absurd w)
+        subst (λ s. Rests s words source source' out out' × (IsWithoutOutput s → out' ≡ out)) (sym e.1)
+        (NoMemory-made status words source source' out out' e.0 same, λ w. absurd w)
   ]
 
-  -- Done after its line, which is none
-  pub done : result ≡ Done → IsDone words source source' out out'
-  done e =
+  -- what any answer but a write fault rests on
+  pub answered : (wanted : Status) → (wanted ≡ WriteFault → ⊥) → result ≡ wanted → Rests wanted words source source' out out'
+  answered wanted other e =
       let s = WasSaid-reports status result err err' reports in
-      done_said s.0 result err err' s.1.told words source source' out out' (Rests-said s.0 s.1).0 e
+      rests_said s.0 result err err' s.1.told words source source' out out' (Rests-said s.0 s.1).0 wanted other e
 
   -- what stands on the output under a write fault
   pub output_of_write_fault : result ≡ WriteFault → AppendsSome words source source' out out'

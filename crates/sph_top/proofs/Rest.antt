@@ -1,5 +1,5 @@
 -- What follows from that on which an answer rests, before its line is written.
-use Rattle.std.proofs.Common.{◌≡◌, ℕ, ◌+◌, ◌<◌, List, [], ◌++◌, length, refl, sym, ap, ◌∙◌, subst, inl, inr, ◌⊎◌, arith, append-nil, length-append}
+use Rattle.std.proofs.Common.{◌≡◌, ℕ, ◌+◌, ◌<◌, List, [], ◌++◌, length, refl, sym, ap, true, ◌∙◌, subst, inl, inr, ◌⊎◌, arith, append-nil, length-append}
 use Rattle.std.specs.Prelude.{Option, None, Some, String}
 use Rattle.std.specs.declared.alloc.Global.{Global}
 use Rattle.std.specs.Io.KnownBytes.{Appends, Consumes, IsAtEnd}
@@ -13,14 +13,17 @@ use Rattle.sph_edge.specs.Bytes.{GaveAll}
 use Rattle.sph_edge.specs.Causes.{Rose, Stayed}
 use Rattle.sph_edge.specs.Whole.{GaveTooMuch}
 use Rattle.sph_top.specs.declared.status.Status.{Status}
-use Rattle.sph_top.specs.declared.status.Status.TheVariants.{Done, DeckRefused, NotBuilt, ReadFault, WriteFault, NoMemory}
-use Rattle.sph_top.specs.declared.words.Job.{Job}
-use Rattle.sph_top.specs.Answers.{Seen, IsAcceptedDeck, WasRead, ReadsDeck, IsDeckRefused, AppendsSome, AppendsToAnEnd, IsWithoutOutput, Rests}
-use Rattle.sph_top.specs.inner.Steps.{NamesItsKey}
-use Rattle.sph_top.specs.Words.{NamesAJob}
+use Rattle.sph_deck.specs.declared.fault.DeckFault.TheVariants.{TooLong}
+use Rattle.sph_top.specs.declared.status.Status.TheVariants.{Done, Usage, DeckRefused, ReadFault, WriteFault, NoMemory}
+use Rattle.sph_top.specs.Answers.{Seen, IsAcceptedDeck, WasRead, ReadsDeck, HasAcceptedDeck, HasOutput, IsDeckFaulty, IsDeckTooLong, AppendsSome, AppendsToAnEnd, IsWithoutOutput, Rests}
+use Rattle.sph_top.specs.Output.{Output}
+use Rattle.sph_top.specs.inner.Steps.{HasMadeLine, NamesItsKey}
+use Rattle.sph_top.specs.Words.{HasWordsFault, NamesAJob, NamesAReader, reads_deck}
+use Rattle.sph_words.specs.declared.fault.WordsFault.{WordsFault}
 use Rattle.sph_deck.proofs.FirstFaults.{IsFirstFault-unique, first_too_long}
 use Rattle.sph_top.proofs.NamedKeys.{NamesKey-stands}
-use Rattle.sph_top.proofs.Jobs.{named_not_none}
+use Rattle.sph_top.proofs.Jobs.{named_no_fault, reader_names, same_fault, same_job}
+use Rattle.sph_top.proofs.Texts.{output_reads}
 use Rattle.sph_top.proofs.Streams.{AppendsPrefix-pieces}
 
 -- a count that stayed did not rise
@@ -50,7 +53,7 @@ AppendsSome-to_an_end : (words : List (String Global)) (source source' out out' 
     → AppendsSome words source source' out out'
 AppendsSome-to_an_end words source source' out out' (inl none) = inl none
 AppendsSome-to_an_end words source source' out out' (inr some) =
-    inr (some.0, some.1, some.2, AppendsPrefix-pieces some.0 some.1 out.bytes out'.bytes some.3)
+    inr (some.0, some.1, AppendsPrefix-pieces some.0 out.bytes out'.bytes some.2)
 
 -- a sink that stays as it was gets nothing
 Appends-same : (out out' : Seen) → out' ≡ out → Appends out.bytes out'.bytes []
@@ -60,66 +63,92 @@ Appends-same out out' same = subst (λ (o : Seen). Appends out.bytes o.bytes [])
 pub AppendsSome-rests : (status : Status) (words : List (String Global)) (source source' out out' : Seen) → (status ≡ Done → ⊥)
     → (IsWithoutOutput status → out' ≡ out) → Rests status words source source' out out' → AppendsSome words source source' out out'
 AppendsSome-rests Done words source source' out out' undone same rests = absurd (undone refl)
+AppendsSome-rests (Usage fault) words source source' out out' undone same rests = inl (Appends-same out out' (same tt))
 AppendsSome-rests (DeckRefused fault) words source source' out out' undone same rests = inl (Appends-same out out' (same tt))
-AppendsSome-rests NotBuilt words source source' out out' undone same rests = inl (Appends-same out out' (same tt))
 AppendsSome-rests ReadFault words source source' out out' undone same rests = inl (Appends-same out out' (same tt))
-AppendsSome-rests WriteFault words source source' out out' undone same rests = inr (rests.0, rests.1, rests.2, rests.4)
-AppendsSome-rests NoMemory words source source' out out' undone same rests = AppendsSome-to_an_end words source source' out out' rests.1
+AppendsSome-rests WriteFault words source source' out out' undone same rests = inr (rests.0, rests.1, rests.3)
+AppendsSome-rests NoMemory words source source' out out' undone same rests = AppendsSome-to_an_end words source source' out out' rests
 
--- a refused deck's job was named
-job_refused : (fault : DeckFault) (words : List (String Global)) (source source' : Seen) → IsDeckRefused fault words source source' → NamesAJob words
-job_refused fault words source source' (inl long) = long.1.job
-job_refused fault words source source' (inr faulty) = faulty.read.job
+-- the answers whose line takes memory leave the output as it was
+made_without : (status : Status) → HasMadeLine status → IsWithoutOutput status
+made_without (Usage fault) made = tt
+made_without (DeckRefused fault) made = tt
+made_without Done made = absurd made
+made_without ReadFault made = absurd made
+made_without WriteFault made = absurd made
+made_without NoMemory made = absurd made
 
--- where there was no memory for a refusal's line, nothing was appended
-pub NoMemory-refused : (fault : DeckFault) (words : List (String Global)) (source source' out out' : Seen) → out' ≡ out
-    → IsDeckRefused fault words source source' → Rests NoMemory words source source' out out'
-NoMemory-refused fault words source source' out out' same refused =
-    (job_refused fault words source source' refused, inl (Appends-same out out' same))
+-- where there was no memory for such a line, nothing was appended
+pub NoMemory-made : (status : Status) (words : List (String Global)) (source source' out out' : Seen) → HasMadeLine status
+    → (IsWithoutOutput status → out' ≡ out) → Rests NoMemory words source source' out out'
+NoMemory-made status words source source' out out' made same = inl (Appends-same out out' (same (made_without status made)))
 
 -- a refused deck's fault names its key
-NamesKey-refused : (fault : DeckFault) (words : List (String Global)) (source source' : Seen) → IsDeckRefused fault words source source' → NamesKey fault
-NamesKey-refused fault words source source' (inl long) = subst NamesKey (sym long.0) tt
-NamesKey-refused fault words source source' (inr faulty) = NamesKey-stands faulty.bytes fault faulty.first.stands
+NamesKey-refused : (fault : DeckFault) (source source' : Seen) → ((fault ≡ TooLong) × IsDeckTooLong source source') ⊎ IsDeckFaulty fault source source' → NamesKey fault
+NamesKey-refused fault source source' (inl long) = subst NamesKey (sym long.0) tt
+NamesKey-refused fault source source' (inr faulty) = NamesKey-stands faulty.bytes fault faulty.first.stands
 
 pub NamesItsKey-rests : (status : Status) (words : List (String Global)) (source source' out out' : Seen) → Rests status words source source' out out'
     → NamesItsKey status
-NamesItsKey-rests (DeckRefused fault) words source source' out out' rests = NamesKey-refused fault words source source' rests
+NamesItsKey-rests (DeckRefused fault) words source source' out out' rests = NamesKey-refused fault source source' rests.1
 NamesItsKey-rests _ words source source' out out' rests = tt
 
 -- Where the source tells its bytes and no read failed, the answer is that of these bytes.
-module _ (words : List (String Global)) (source source' out out' : Seen) (job : NamesAJob words) (bytes : List ℕ) (has : source.bytes ≡ Some bytes)
-    (stayed : Stayed source.faults source'.faults) where
+module _ (source source' : Seen) (bytes : List ℕ) (has : source.bytes ≡ Some bytes) where
   -- the bytes that were read
-  same : (given : List ℕ) → WasRead words source source' given → given ≡ bytes
+  same : (given : List ℕ) → WasRead source source' given → given ≡ bytes
   same given read = GaveAll-same source.bytes source'.bytes bytes given has read.gave
 
   -- an accepted deck that was read is that of the bytes
-  deck_of : (named : Job) (deck : Deck) → ReadsDeck words source source' named deck → IsAcceptedDeck bytes deck
-  deck_of named deck reads = subst (λ l. IsAcceptedDeck l deck) (same reads.bytes reads.read) reads.deck_is
+  deck_of : (deck : Deck) → ReadsDeck source source' deck → IsAcceptedDeck bytes deck
+  deck_of deck reads = subst (λ l. IsAcceptedDeck l deck) (same reads.bytes reads.read) reads.deck_is
 
   -- the fault for which the deck was refused is the first of the bytes
-  fault_of : (fault : DeckFault) → IsDeckRefused fault words source source' → IsFirstFault bytes fault
+  fault_of : (fault : DeckFault) → ((fault ≡ TooLong) × IsDeckTooLong source source') ⊎ IsDeckFaulty fault source source' → IsFirstFault bytes fault
   fault_of fault (inl long) =
       subst (IsFirstFault bytes) (sym long.0) (first_too_long bytes (GaveTooMuch-long longest_text source.bytes source'.bytes bytes has long.1.gave))
   fault_of fault (inr faulty) = subst (λ l. IsFirstFault l fault) (same faulty.bytes faulty.read) faulty.first
 
-  -- a text with a first fault is refused for it
-  pub refused : (status : Status) → Rests status words source source' out out' → (fault : DeckFault) → IsFirstFault bytes fault
-      → (status ≡ DeckRefused fault) ⊎ (status ≡ NoMemory)
-  refused Done rests fault first = absurd ((deck_of rests.job rests.deck rests.read).accepted fault first.stands)
-  refused (DeckRefused other) rests fault first = inl (ap DeckRefused (IsFirstFault-unique bytes other fault (fault_of other rests) first))
-  refused NotBuilt rests fault first = absurd (named_not_none words job rests)
-  refused ReadFault rests fault first = absurd (stayed_not_rose source.faults source'.faults stayed rests.1)
-  refused WriteFault rests fault first = absurd ((deck_of rests.0 rests.1 rests.2).accepted fault first.stands)
-  refused NoMemory rests fault first = inr refl
+  -- the output of a job that reads a deck is for an accepted one
+  accepted_output : (words : List (String Global)) (output : Output) → NamesAReader words → HasOutput words source source' output → IsAccepted bytes
+  accepted_output words output reader of =
+      let reads : reads_deck of.job ≡ true = ap reads_deck (same_job words of.job reader.0 of.named reader.1) ∙ reader.2 in
+      let deck = output_reads (ReadsDeck source source') of.job output reads of.is in
+      (deck_of deck.0 deck.1).accepted
 
-  -- the job is done on an accepted deck, where no write failed
-  pub job_done : (status : Status) → Rests status words source source' out out' → IsAccepted bytes
-      → Stayed out.faults out'.faults → (status ≡ Done) ⊎ (status ≡ NoMemory)
-  job_done Done rests accepted kept = inl refl
-  job_done (DeckRefused fault) rests accepted kept = absurd (accepted fault (fault_of fault rests).stands)
-  job_done NotBuilt rests accepted kept = absurd (named_not_none words job rests)
-  job_done ReadFault rests accepted kept = absurd (stayed_not_rose source.faults source'.faults stayed rests.1)
-  job_done WriteFault rests accepted kept = absurd (stayed_not_rose out.faults out'.faults kept rests.3)
-  job_done NoMemory rests accepted kept = inr refl
+-- a text with a first fault is refused for it
+pub refused : (words : List (String Global)) (source source' out out' : Seen) → NamesAReader words → (bytes : List ℕ) → source.bytes ≡ Some bytes
+    → Stayed source.faults source'.faults → (status : Status) → Rests status words source source' out out' → (fault : DeckFault) → IsFirstFault bytes fault
+    → (status ≡ DeckRefused fault) ⊎ (status ≡ NoMemory)
+refused words source source' out out' reader bytes has stayed Done rests fault first =
+    absurd (accepted_output source source' bytes has words rests.output reader rests.has fault first.stands)
+refused words source source' out out' reader bytes has stayed (Usage other) rests fault first =
+    absurd (named_no_fault words other (reader_names words reader) rests)
+refused words source source' out out' reader bytes has stayed (DeckRefused other) rests fault first =
+    inl (ap DeckRefused (IsFirstFault-unique bytes other fault (fault_of source source' bytes has other rests.1) first))
+refused words source source' out out' reader bytes has stayed ReadFault rests fault first = absurd (stayed_not_rose source.faults source'.faults stayed rests.1)
+refused words source source' out out' reader bytes has stayed WriteFault rests fault first =
+    absurd (accepted_output source source' bytes has words rests.0 reader rests.1 fault first.stands)
+refused words source source' out out' reader bytes has stayed NoMemory rests fault first = inr refl
+
+-- words with a fault are refused for it
+pub usage : (words : List (String Global)) (source source' out out' : Seen) (fault : WordsFault) → HasWordsFault words fault
+    → (status : Status) → Rests status words source source' out out' → (status ≡ Usage fault) ⊎ (status ≡ NoMemory)
+usage words source source' out out' fault has Done rests = absurd (named_no_fault words fault (rests.has.job, rests.has.named) has)
+usage words source source' out out' fault has (Usage other) rests = inl (ap Usage (same_fault words other fault rests has))
+usage words source source' out out' fault has (DeckRefused other) rests = absurd (named_no_fault words fault (reader_names words rests.0) has)
+usage words source source' out out' fault has ReadFault rests = absurd (named_no_fault words fault (reader_names words rests.0) has)
+usage words source source' out out' fault has WriteFault rests = absurd (named_no_fault words fault (rests.1.job, rests.1.named) has)
+usage words source source' out out' fault has NoMemory rests = inr refl
+
+-- the job is done on an accepted deck where it reads one, where no write failed
+pub job_done : (words : List (String Global)) (source source' out out' : Seen) → NamesAJob words → (NamesAReader words → HasAcceptedDeck source source')
+    → Stayed out.faults out'.faults → (status : Status) → Rests status words source source' out out' → (status ≡ Done) ⊎ (status ≡ NoMemory)
+job_done words source source' out out' job input kept Done rests = inl refl
+job_done words source source' out out' job input kept (Usage fault) rests = absurd (named_no_fault words fault job rests)
+job_done words source source' out out' job input kept (DeckRefused fault) rests =
+    let deck = input rests.0 in
+    absurd (deck.accepted fault (fault_of source source' deck.bytes deck.left fault rests.1).stands)
+job_done words source source' out out' job input kept ReadFault rests = absurd (stayed_not_rose source.faults source'.faults (input rests.0).stayed rests.1)
+job_done words source source' out out' job input kept WriteFault rests = absurd (stayed_not_rose out.faults out'.faults kept rests.2)
+job_done words source source' out out' job input kept NoMemory rests = inr refl

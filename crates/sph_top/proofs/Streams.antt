@@ -1,19 +1,19 @@
--- Some first pieces of a job's output are some of its first bytes.
-use Rattle.std.proofs.Common.{◌≡◌, ℕ, List, [], ◌++◌, length, take, drop, arith, sym, ap, ◌∙◌, subst, inl, inr, append_assoc}
+-- Some first pieces of an output are some of its first bytes.
+use Rattle.std.proofs.Common.{◌≡◌, ℕ, ◌+◌, ◌-◌, ◌*◌, List, [], ◌++◌, length, take, drop, arith, sym, ap, ◌∙◌, subst, inl, inr, append_assoc}
 use Rattle.std.specs.Prelude.{Option, flat_map}
 use Rattle.std.specs.Io.KnownBytes.{Appends}
+use Rattle.std.specs.List.{range_with_len}
 use Rattle.std.proofs.lemmas.Grind.{flat_map-append}
+use Rattle.lists.proofs.Ranges.{range-add}
+use Rattle.sph_plain.specs.Run.{after as list_after}
+use Rattle.sph_report.specs.SummaryLine.{summary_line}
 use Rattle.std.proofs.lemmas.List.{take_all, take-append-drop}
 use Rattle.sph_deck.specs.declared.deck.Deck.{Deck}
 use Rattle.sph_edge.specs.Bytes.{AppendsPrefix}
-use Rattle.sph_report.specs.CheckLine.{check_line}
-use Rattle.sph_report.specs.TreeLines.{tree_lines}
-use Rattle.sph_run.specs.Stream.{AppendsSnapshots, deck_stream, snapshots_of}
+use Rattle.sph_run.specs.Stream.{AppendsLines, AppendsSnapshots, deck_stream, deck_summary, snapshot_count, snapshots_of, summary_lines}
 use Rattle.sph_run.proofs.Pieces.{AppendsPrefix-first}
 use Rattle.sph_snap.specs.Snapshot.{end_mark, spell}
-use Rattle.sph_top.specs.declared.words.Job.{Job}
-use Rattle.sph_top.specs.declared.words.Job.TheVariants.{Run, Plain, Check, Tree}
-use Rattle.sph_top.specs.Output.{AppendsPieces, output_of}
+use Rattle.sph_top.specs.Output.{AppendsPieces, Output, bytes_of, stream, summary, text}
 
 -- nothing is some first bytes of any piece
 AppendsPrefix-nothing : (before after : Option (List ℕ)) (piece : List ℕ) → Appends before after [] → AppendsPrefix before after piece
@@ -42,18 +42,21 @@ AppendsPrefix-snapshots deck before after p =
     ap (λ l. l ++ end_mark) (flat_map-split spell snapshots p.count) ∙ append_assoc first rest end_mark in
     subst (AppendsPrefix before after) (sym whole) (AppendsPrefix-first before after first (rest ++ end_mark) (AppendsPrefix-all before after first p.appended))
 
--- whole pieces of a job's output are some of its first bytes
-pub AppendsPrefix-pieces : (job : Job) (deck : Deck) (before after : Option (List ℕ)) → AppendsPieces job deck before after → AppendsPrefix before after (output_of job deck)
-AppendsPrefix-pieces Run deck before after p = AppendsPrefix-snapshots deck before after p
-AppendsPrefix-pieces Plain deck before after p = AppendsPrefix-snapshots deck before after p
-AppendsPrefix-pieces Check deck before after (inl p) = AppendsPrefix-nothing before after (check_line deck) p
-AppendsPrefix-pieces Check deck before after (inr p) = AppendsPrefix-all before after (check_line deck) p
-AppendsPrefix-pieces Tree deck before after (inl p) = AppendsPrefix-nothing before after (tree_lines deck) p
-AppendsPrefix-pieces Tree deck before after (inr p) = AppendsPrefix-all before after (tree_lines deck) p
+-- whole lines are some first bytes of the summary
+AppendsPrefix-lines : (deck : Deck) (before after : Option (List ℕ)) → AppendsLines deck before after → AppendsPrefix before after (deck_summary deck)
+AppendsPrefix-lines deck before after p =
+    let line = λ (k : ℕ). summary_line (k * deck.params.every) (list_after deck (k * deck.params.every)) in
+    let left = snapshot_count deck - p.count in
+    let first = summary_lines deck p.count in
+    let rest = flat_map line (range_with_len (0 + p.count) left) in
+    let count : snapshot_count deck ≡ p.count + left = omega (arith, p.within) in
+    let whole : deck_summary deck ≡ first ++ rest =
+    ap (summary_lines deck) count ∙ ap (flat_map line) (range-add 0 p.count left) ∙ flat_map-append line (range_with_len 0 p.count) (range_with_len (0 + p.count) left) in
+    subst (AppendsPrefix before after) (sym whole) (AppendsPrefix-first before after first rest (AppendsPrefix-all before after first p.appended))
 
--- where nothing was appended, no piece of any job's output was
-pub AppendsPieces-nothing : (job : Job) (deck : Deck) (before after : Option (List ℕ)) → Appends before after [] → AppendsPieces job deck before after
-AppendsPieces-nothing Run deck before after p = record { count = 0; within = omega arith; appended = p }
-AppendsPieces-nothing Plain deck before after p = record { count = 0; within = omega arith; appended = p }
-AppendsPieces-nothing Check deck before after p = inl p
-AppendsPieces-nothing Tree deck before after p = inl p
+-- whole pieces of an output are some of its first bytes
+pub AppendsPrefix-pieces : (output : Output) (before after : Option (List ℕ)) → AppendsPieces output before after → AppendsPrefix before after (bytes_of output)
+AppendsPrefix-pieces (stream deck) before after p = AppendsPrefix-snapshots deck before after p
+AppendsPrefix-pieces (summary deck) before after p = AppendsPrefix-lines deck before after p
+AppendsPrefix-pieces (text bytes) before after (inl p) = AppendsPrefix-nothing before after bytes p
+AppendsPrefix-pieces (text bytes) before after (inr p) = AppendsPrefix-all before after bytes p

@@ -1,16 +1,17 @@
 -- The line that each answer writes on standard error.
 use Rattle.std.specs.Prelude.{ℕ, List, [], ◌∷◌, ◌++◌, codes}
 use Rattle.sph_report.specs.DeckLines.{deck_line}
+use Rattle.sph_report.specs.WordsLines.{words_line}
 use Rattle.sph_top.specs.declared.status.Status.{Status}
-use Rattle.sph_top.specs.declared.status.Status.TheVariants.{Done, DeckRefused, NotBuilt, ReadFault, WriteFault, NoMemory}
+use Rattle.sph_top.specs.declared.status.Status.TheVariants.{Done, Usage, DeckRefused, ReadFault, WriteFault, NoMemory}
 
 abbrev pub line : List ℕ → List ℕ
 line text = text ++ 10 ∷ []
 
 unfoldable pub error_line : Status → List ℕ
 error_line Done = []
+error_line (Usage fault) = words_line fault
 error_line (DeckRefused fault) = deck_line fault
-error_line NotBuilt = line (codes "swiftq: not built")
 error_line ReadFault = line (codes "swiftq: read fault")
 error_line WriteFault = line (codes "swiftq: write fault")
 error_line NoMemory = line (codes "swiftq: no memory")
@@ -18,8 +19,8 @@ error_line NoMemory = line (codes "swiftq: no memory")
 -- the exit status of the process
 abbrev pub exit_status : Status → ℕ
 exit_status Done = 0
+exit_status (Usage fault) = 2
 exit_status (DeckRefused fault) = 3
 exit_status ReadFault = 4
 exit_status WriteFault = 5
 exit_status NoMemory = 6
-exit_status NotBuilt = 7

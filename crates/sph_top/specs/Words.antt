@@ -1,24 +1,26 @@
--- Which words name a job.
-use Rattle.std.specs.Prelude.{◌≡◌, ℕ, List, map, length, slice_get, Some, codes, String, string_bytes}
+-- What the words name: a job, or a fault.
+use Rattle.std.specs.Prelude.{◌≡◌, Bool, true, false, List, map, Ok, Err, String, string_bytes}
 use Rattle.std.specs.declared.alloc.Global.{Global}
-use Rattle.sph_top.specs.declared.words.Job.{Job}
-use Rattle.sph_top.specs.declared.words.Job.TheVariants.{Run, Plain, Check, Tree}
+use Rattle.sph_words.specs.declared.fault.WordsFault.{WordsFault}
+use Rattle.sph_words.specs.declared.job.Job.{Job}
+use Rattle.sph_words.specs.declared.job.Job.TheVariants.{Generate, Sample}
+use Rattle.sph_words.specs.Jobs.{asked}
 
--- the job's word
-abbrev pub word_of : Job → List ℕ
-word_of Run = codes "run"
-word_of Plain = codes "plain"
-word_of Check = codes "check"
-word_of Tree = codes "tree"
+abbrev pub NamesJob : List (String Global) → Job → Type 0
+NamesJob words job = asked (map string_bytes words) ≡ Ok job
 
--- the words are the program's name and the job's word
-pub record NamesJob (words : List (String Global)) (job : Job) : Type 0 where
-  pub two : length words ≡ 2
-  pub word : slice_get (map string_bytes words) 1 ≡ Some (word_of job)
+abbrev pub HasWordsFault : List (String Global) → WordsFault → Type 0
+HasWordsFault words fault = asked (map string_bytes words) ≡ Err fault
 
--- some job is named, and none is
 abbrev pub NamesAJob : List (String Global) → Type 0
 NamesAJob words = (job : Job) × NamesJob words job
 
-abbrev pub NamesNone : List (String Global) → Type 0
-NamesNone words = (job : Job) → NamesJob words job → ⊥
+-- the job reads a deck; the others make one from two numbers
+abbrev pub reads_deck : Job → Bool
+reads_deck (Generate side seed) = false
+reads_deck (Sample side seed workers) = false
+reads_deck _ = true
+
+-- a job that reads a deck is named
+abbrev pub NamesAReader : List (String Global) → Type 0
+NamesAReader words = (job : Job) × NamesJob words job × (reads_deck job ≡ true)

@@ -1,27 +1,27 @@
 //! The top call.
 ghost use Rattle.std.specs.Prelude.{◌≡◌, ◌<◌, ◌≤◌, ◌⊎◌, List, ℕ, length, Some};
 ghost use Rattle.std.specs.Io.KnownBytes.{Appends};
-ghost use Rattle.sph_deck.specs.Faults.{IsAccepted};
 ghost use Rattle.sph_deck.specs.FirstFault.{IsFirstFault};
 ghost use Rattle.sph_deck.specs.declared.fault.DeckFault.{DeckFault};
 ghost use Rattle.sph_edge.specs.Causes.{Rose, Stayed};
-ghost use Rattle.sph_top.specs.Answers.{seen, IsDone, IsDeckRefused, AppendsSome, AppendsToAnEnd, IsWithoutOutput, Rests, TellsWriteFault, Yields};
+ghost use Rattle.sph_top.specs.Answers.{seen, HasAcceptedDeck, IsDone, IsDeckRefused, AppendsSome, AppendsToAnEnd, IsWithoutOutput, Rests, TellsWriteFault, Yields};
 ghost use Rattle.sph_top.specs.Lines.{error_line};
-ghost use Rattle.sph_top.specs.Words.{NamesAJob, NamesNone};
+ghost use Rattle.sph_top.specs.inner.Steps.{status_of};
+ghost use Rattle.sph_top.specs.Words.{HasWordsFault, NamesAJob, NamesAReader};
+ghost use Rattle.sph_words.specs.declared.fault.WordsFault.{WordsFault};
 
 use crate::job::do_job;
 use crate::report::report;
 use crate::status::Status;
-use crate::words::job_of;
-use sph_deck::{DeckFault, LONGEST_TEXT};
-use sph_edge::{Gate, ReadEnd, Sink, Source, read_whole};
+use sph_deck::DeckFault;
+use sph_edge::{Gate, Sink, Source};
+use sph_words::{WordsFault, WordsRefusal, read_words};
 use std::alloc::Global;
 use std::thread::Threads;
 
-/// All that the program does. It reads the words, then the whole source, does the job on the deck, writes
-/// the output to `out`, and writes the line of a refusal to `err`.
-///
-/// So far the jobs are `run`, `plain`, `check` and `tree`, without options. Other words are answered by `NotBuilt`.
+/// All that the program does. It reads the words, then the whole source where the job reads a deck, does the
+/// job, writes the output to `out`, and writes the line of a refusal to `err`. So far all is done on the
+/// calling thread, and the number of workers changes nothing.
 pub fn swiftq<R: Threads + Sync, S: Source, O: Sink, E: Sink, G: Gate>(
     _rt: &R,
     alloc: Global,
@@ -36,17 +36,18 @@ pub fn swiftq<R: Threads + Sync, S: Source, O: Sink, E: Sink, G: Gate>(
         (seen O.held O.faults out.old) (seen O.held O.faults out.new) }
     ensures err_untouched { result ≡ Status.Done → err.new ≡ err.old }
 
+    // The words are refused exactly where they have a fault, and for their first. Nothing is read unless they name a job that reads a deck.
+    ensures usage { (fault : WordsFault) → result ≡ Status.Usage fault → HasWordsFault words.now fault }
+    ensures usage_where { (fault : WordsFault) → HasWordsFault words.now fault
+        → Yields (Status.Usage fault) result (seen E.held E.faults err.old) (seen E.held E.faults err.new) }
+    ensures nothing_read { (NamesAReader words.now → ⊥) → source.new ≡ source.old }
+
     // A deck is refused exactly where it has a fault, and for its first.
     ensures deck_refused { (fault : DeckFault) → result ≡ Status.DeckRefused fault
         → IsDeckRefused fault words.now (seen S.left S.faults source.old) (seen S.left S.faults source.new) }
-    ensures deck_refused_where { NamesAJob words.now → (bytes : List ℕ) → S.left source.old ≡ Some bytes
+    ensures deck_refused_where { NamesAReader words.now → (bytes : List ℕ) → S.left source.old ≡ Some bytes
         → Stayed (S.faults source.old) (S.faults source.new) → (fault : DeckFault) → IsFirstFault bytes fault
         → Yields (Status.DeckRefused fault) result (seen E.held E.faults err.old) (seen E.held E.faults err.new) }
-
-    // What isn't built yet: words that are no job, and then nothing is read.
-    ensures not_built { result ≡ Status.NotBuilt → NamesNone words.now }
-    ensures not_built_where { NamesNone words.now → Yields Status.NotBuilt result (seen E.held E.faults err.old) (seen E.held E.faults err.new) }
-    ensures nothing_read { NamesNone words.now → source.new ≡ source.old }
 
     // A fault comes only where a count of faults rose.
     ensures read_fault { result ≡ Status.ReadFault → Rose (S.faults source.old) (S.faults source.new) }
@@ -64,16 +65,17 @@ pub fn swiftq<R: Threads + Sync, S: Source, O: Sink, E: Sink, G: Gate>(
         (seen S.left S.faults source.old) (seen S.left S.faults source.new) (seen O.held O.faults out.old) (seen O.held O.faults out.new)
         (seen E.held E.faults err.old) (seen E.held E.faults err.new) }
 
-    // A named job, an accepted deck and no fault give Done, unless memory runs out.
-    ensures complete { NamesAJob words.now → (bytes : List ℕ) → S.left source.old ≡ Some bytes → IsAccepted bytes
-        → Stayed (S.faults source.old) (S.faults source.new) → Stayed (O.faults out.old) (O.faults out.new)
-        → Stayed (E.faults err.old) (E.faults err.new) → (result ≡ Status.Done) ⊎ (result ≡ Status.NoMemory) }
+    // A named job, an accepted deck where it reads one, and no fault give Done, unless memory runs out.
+    ensures complete { NamesAJob words.now
+        → (NamesAReader words.now → HasAcceptedDeck (seen S.left S.faults source.old) (seen S.left S.faults source.new))
+        → Stayed (O.faults out.old) (O.faults out.new) → Stayed (E.faults err.old) (E.faults err.new)
+        → (result ≡ Status.Done) ⊎ (result ≡ Status.NoMemory) }
 {
     let status = answer(alloc, words, source, out);
     report(alloc, status, err)
 }
 
-/// The answer before its line is written: reads the words and the source, and does the job.
+/// The answer before its line is written: reads the words, and does their job.
 fn answer<S: Source, O: Sink>(
     alloc: Global,
     words: &[String],
@@ -82,16 +84,21 @@ fn answer<S: Source, O: Sink>(
 ) -> Status
     ensures rests { Rests result words.now (seen S.left S.faults source.old) (seen S.left S.faults source.new)
         (seen O.held O.faults out.old) (seen O.held O.faults out.new) }
-    ensures unread { NamesNone words.now → source.new ≡ source.old }
+    ensures unread { (NamesAReader words.now → ⊥) → source.new ≡ source.old }
     ensures untouched { IsWithoutOutput result → out.new ≡ out.old }
 {
-    let Some(job) = job_of(words) else {
-        return Status::NotBuilt;
-    };
-    match read_whole(alloc, source, LONGEST_TEXT) {
-        Ok(bytes) => do_job(alloc, job, &bytes, out),
-        Err(ReadEnd::TooLong) => Status::DeckRefused(DeckFault::TooLong),
-        Err(ReadEnd::Fault) => Status::ReadFault,
-        Err(ReadEnd::Memory) => Status::NoMemory,
+    match read_words(alloc, words) {
+        Ok(job) => do_job(alloc, job, source, out),
+        Err(refusal) => status_of(refusal),
+    }
+}
+
+/// The answer to words that are refused.
+fn status_of(refusal: WordsRefusal) -> Status
+    ensures { result ≡ status_of refusal }
+{
+    match refusal {
+        WordsRefusal::Fault(fault) => Status::Usage(fault),
+        WordsRefusal::Memory => Status::NoMemory,
     }
 }

@@ -1,19 +1,53 @@
-//! Doing a job on a deck, and what is answered for it.
-ghost use Rattle.std.specs.Prelude.{◌≡◌, IfOk};
-ghost use Rattle.sph_top.specs.Answers.{seen, IsWithoutOutput};
-ghost use Rattle.sph_top.specs.Output.{output_of};
-ghost use Rattle.sph_top.specs.inner.Steps.{Follows, Writes};
+//! Doing a job, and what is answered for it.
+ghost use Rattle.std.specs.Prelude.{◌≡◌, true, false, List};
+ghost use Rattle.std.specs.declared.alloc.Global.{Global};
+ghost use Rattle.std.specs.Prelude.{String};
+ghost use Rattle.sph_top.specs.Answers.{seen, IsAcceptedDeck, IsWithoutOutput, Rests};
+ghost use Rattle.sph_top.specs.Words.{NamesJob, reads_deck};
+ghost use Rattle.sph_top.specs.inner.Steps.{Follows, HasSide, Writes};
 
+use crate::output::{run, sample, write_text};
 use crate::status::Status;
-use crate::words::Job;
-use sph_deck::{Deck, DeckRefusal, read_deck};
-use sph_edge::{Failed, Sink, write_whole};
+use sph_deck::{Deck, DeckFault, DeckRefusal, LONGEST_TEXT, lattice, read_deck};
+use sph_edge::{ReadEnd, Sink, Source, read_whole};
 use sph_report::{check_text, tree_text};
-use sph_run::{Form, RunEnd, run_plain};
-use std::alloc::{AllocError, Global};
+use sph_run::Form;
+use sph_words::Job;
+use std::alloc::Global;
+
+/// Does the job, on the source where it reads a deck.
+pub fn do_job<S: Source, O: Sink>(alloc: Global, job: Job, source: &mut S, out: &mut O) -> Status
+    requires { HasSide job }
+    ensures rests { (words : List (String Global)) → NamesJob words job → Rests result words (seen S.left S.faults source.old) (seen S.left S.faults source.new)
+        (seen O.held O.faults out.old) (seen O.held O.faults out.new) }
+    ensures unread { reads_deck job ≡ false → source.new ≡ source.old }
+    ensures untouched { IsWithoutOutput result → out.new ≡ out.old }
+{
+    match job {
+        Job::Generate { side, seed } => write_text(lattice(alloc, side, seed), out),
+        Job::Sample { side, seed, .. } => sample(alloc, side, seed, out),
+        _ => do_on_source(alloc, job, source, out),
+    }
+}
+
+/// Reads the source whole, and does the job on its deck.
+fn do_on_source<S: Source, O: Sink>(alloc: Global, job: Job, source: &mut S, out: &mut O) -> Status
+    requires { reads_deck job ≡ true }
+    ensures rests { (words : List (String Global)) → NamesJob words job → Rests result words (seen S.left S.faults source.old) (seen S.left S.faults source.new)
+        (seen O.held O.faults out.old) (seen O.held O.faults out.new) }
+    ensures untouched { IsWithoutOutput result → out.new ≡ out.old }
+{
+    match read_whole(alloc, source, LONGEST_TEXT) {
+        Ok(bytes) => do_on_text(alloc, job, &bytes, out),
+        Err(ReadEnd::TooLong) => Status::DeckRefused(DeckFault::TooLong),
+        Err(ReadEnd::Fault) => Status::ReadFault,
+        Err(ReadEnd::Memory) => Status::NoMemory,
+    }
+}
 
 /// Reads a deck, and does the job on it where it is accepted.
-pub fn do_job<O: Sink>(alloc: Global, job: Job, bytes: &[u8], out: &mut O) -> Status
+fn do_on_text<O: Sink>(alloc: Global, job: Job, bytes: &[u8], out: &mut O) -> Status
+    requires { reads_deck job ≡ true }
     ensures follows { Follows job bytes.now result (seen O.held O.faults out.old) (seen O.held O.faults out.new) }
     ensures untouched { IsWithoutOutput result → out.new ≡ out.old }
 {
@@ -24,40 +58,16 @@ pub fn do_job<O: Sink>(alloc: Global, job: Job, bytes: &[u8], out: &mut O) -> St
     }
 }
 
-/// Writes the job's output for an accepted deck.
+/// Writes the job's output for the deck that it read.
 fn write_output<O: Sink>(alloc: Global, job: Job, deck: &Deck, out: &mut O) -> Status
-    ensures { Writes job deck.now result (seen O.held O.faults out.old) (seen O.held O.faults out.new) }
+    requires { reads_deck job ≡ true }
+    ensures { Writes job (λ d. d ≡ deck.now) result (seen O.held O.faults out.old) (seen O.held O.faults out.new) }
 {
     match job {
-        Job::Run | Job::Plain => run(alloc, deck, out),
+        Job::Run { .. } => run(alloc, deck, Form::Snapshots, out),
+        Job::Plain => run(alloc, deck, Form::Snapshots, out),
         Job::Check => write_text(check_text(alloc, deck), out),
         Job::Tree => write_text(tree_text(alloc, deck), out),
-    }
-}
-
-/// Writes the stream of a deck's run.
-fn run<O: Sink>(alloc: Global, deck: &Deck, out: &mut O) -> Status
-    ensures run { Writes Job.Run deck.now result (seen O.held O.faults out.old) (seen O.held O.faults out.new) }
-    ensures plain { Writes Job.Plain deck.now result (seen O.held O.faults out.old) (seen O.held O.faults out.new) }
-{
-    match run_plain(alloc, deck, Form::Snapshots, out) {
-        RunEnd::Done => Status::Done,
-        RunEnd::WriteFault => Status::WriteFault,
-        RunEnd::Memory => Status::NoMemory,
-    }
-}
-
-/// Writes a text whole, if there was memory for it. The clause holds for each job that has this output.
-fn write_text<O: Sink>(text: Result<Vec<u8>, AllocError>, out: &mut O) -> Status
-    ensures { (job : Job) (deck : Deck) → IfOk text (λ whole. whole.items ≡ output_of job deck)
-        → Writes job deck result (seen O.held O.faults out.old) (seen O.held O.faults out.new) }
-{
-    let whole = match text {
-        Ok(whole) => whole,
-        Err(AllocError) => return Status::NoMemory,
-    };
-    match write_whole(out, &whole) {
-        Ok(()) => Status::Done,
-        Err(Failed) => Status::WriteFault,
+        Job::Generate { .. } | Job::Sample { .. } => unreachable!(),
     }
 }

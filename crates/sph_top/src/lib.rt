@@ -3,10 +3,9 @@
 
 mod answer;
 mod job;
+mod output;
 mod report;
 mod status;
-mod words;
 
 pub use answer::swiftq;
 pub use status::{Status, exit_of};
-pub use words::Job;

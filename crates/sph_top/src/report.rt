@@ -9,14 +9,15 @@ ghost use Rattle.sph_top.specs.inner.Steps.{IsTold, NamesItsKey, Reports};
 use crate::status::Status;
 use sph_deck::DeckFault;
 use sph_edge::{Failed, Sink, write_whole};
-use sph_report::deck_text;
+use sph_report::{deck_text, words_text};
+use sph_words::WordsFault;
 use std::alloc::{AllocError, Global};
 
 /// The line for memory that ran out.
 const NO_MEMORY: &[u8] = b"swiftq: no memory\n";
 
-/// Writes the line of a refusal, and answers a write fault where that fails. The line of a refused deck
-/// takes memory: where there is none, the answer is `NoMemory`, with its own line.
+/// Writes the line of a refusal, and answers a write fault where that fails. The lines of a refused deck
+/// and of the words' faults take memory: where there is none, the answer is `NoMemory`, with its own line.
 #[tactic(auto, unfolding(crate::specs::Lines::error_line))]
 pub fn report<E: Sink>(alloc: Global, status: Status, err: &mut E) -> Status
     requires { NamesItsKey status }
@@ -25,11 +26,22 @@ pub fn report<E: Sink>(alloc: Global, status: Status, err: &mut E) -> Status
 {
     match status {
         Status::Done => Status::Done,
+        Status::Usage(fault) => report_usage(alloc, fault, err),
         Status::DeckRefused(fault) => report_refused(alloc, fault, err),
-        Status::NotBuilt => tell(status, b"swiftq: not built\n", err),
         Status::ReadFault => tell(status, b"swiftq: read fault\n", err),
         Status::WriteFault => tell(status, b"swiftq: write fault\n", err),
         Status::NoMemory => tell(status, NO_MEMORY, err),
+    }
+}
+
+/// The same for a fault of the words.
+#[tactic(auto, unfolding(crate::specs::Lines::error_line))]
+fn report_usage<E: Sink>(alloc: Global, fault: WordsFault, err: &mut E) -> Status
+    ensures { Reports (Status.Usage fault) result (seen E.held E.faults err.old) (seen E.held E.faults err.new) }
+{
+    match words_text(alloc, &fault) {
+        Ok(line) => tell(Status::Usage(fault), &line, err),
+        Err(AllocError) => tell(Status::NoMemory, NO_MEMORY, err),
     }
 }
 

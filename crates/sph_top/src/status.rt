@@ -3,16 +3,17 @@ ghost use Rattle.std.specs.Prelude.{◌≡◌};
 ghost use Rattle.sph_top.specs.Lines.{exit_status};
 
 use sph_deck::DeckFault;
+use sph_words::WordsFault;
 
 /// The answer of the top call.
 #[derive(Clone, Copy, Debug, PartialEq, Eq)]
 pub enum Status {
     /// The whole output was written.
     Done,
+    /// The words have this fault.
+    Usage(WordsFault),
     /// The deck has this fault.
     DeckRefused(DeckFault),
-    /// The words ask for what isn't built yet.
-    NotBuilt,
     /// A read of the input failed.
     ReadFault,
     /// A write of the output or of an error line failed.
@@ -27,10 +28,10 @@ pub fn exit_of(status: &Status) -> u8
 {
     match status {
         Status::Done => 0,
+        Status::Usage(_) => 2,
         Status::DeckRefused(_) => 3,
         Status::ReadFault => 4,
         Status::WriteFault => 5,
         Status::NoMemory => 6,
-        Status::NotBuilt => 7,
     }
 }

@@ -2,6 +2,8 @@
 #![tactic(auto)]
 
 #[cfg(test)]
+mod lattices;
+#[cfg(test)]
 mod pieces;
 #[cfg(test)]
 mod runs;

@@ -55,7 +55,7 @@ fn pieces<R: Threads + Sync>(
     Ok((out.noted, err.noted))
 }
 
-/// A snapshot of two particles takes 184 bytes, the end mark 8.
+/// A snapshot of two particles takes 184 bytes, the end mark 8; a line of the summary of one site 52, and its deck 224.
 #[test]
 fn hands_over_whole_pieces(rt: HostRuntime) -> Result<(), Fail> {
     let alloc = rt.alloc();
@@ -77,8 +77,15 @@ fn hands_over_whole_pieces(rt: HostRuntime) -> Result<(), Fail> {
         ),
         ("plain", moving.as_str(), &[184, 184, 8], &[]),
         ("check", still.as_str(), &[accepted.len()], &[]),
+        ("sample 1 0", "", &[52, 52], &[]),
+        ("generate 1 0", "", &[224], &[]),
         ("run", "", &[], &[refused.len()]),
-        ("fly", "", &[], &["swiftq: not built\n".len()]),
+        (
+            "generate 33 1",
+            "",
+            &[],
+            &["swiftq: side must be 1 to 32, not 33\n".len()],
+        ),
     ] {
         let (out, err) = pieces(&rt, alloc, job, text)?;
         assert!(rt; out.as_slice() == to_out, "{job} to its output");

@@ -117,12 +117,13 @@ pub(crate) struct Outcome {
     pub err: MemorySink,
 }
 
-/// The program's name and the job's word.
+/// The program's name, and the words of a job with a blank between any two.
 pub(crate) fn words_for(alloc: Global, job: &str) -> Result<Vec<String>, AllocError> {
-    let words = vec![in alloc;
-        String::from_str(alloc, "swiftq")?,
-        String::from_str(alloc, job)?,
-    ]?;
+    let mut words = Vec::new(alloc);
+    words.push(String::from_str(alloc, "swiftq")?)?;
+    for word in job.split(' ') {
+        words.push(String::from_str(alloc, word)?)?;
+    }
     Ok(words)
 }
 
@@ -160,7 +161,7 @@ pub(crate) fn do_job<R: Threads + Sync>(
         alloc,
         job,
         &mut source,
-        sink(alloc, 16_384, usize::MAX, 0)?,
+        sink(alloc, 1_048_576, usize::MAX, 0)?,
         sink(alloc, 256, usize::MAX, 0)?,
     )
 }
@@ -260,13 +261,61 @@ fn refusals_tell_their_line(rt: HostRuntime) -> Result<(), Fail> {
 }
 
 #[test]
-fn other_words_are_not_built(rt: HostRuntime) -> Result<(), Fail> {
+fn faults_of_the_words_tell_their_line(rt: HostRuntime) -> Result<(), Fail> {
     let alloc = rt.alloc();
     let text = deck(alloc, ONE_SNAPSHOT, &[LIGHT])?;
-    let run = do_job(&rt, alloc, "fly", text.as_str())?;
-    assert_eq!(rt; run.status, Status::NotBuilt);
-    assert!(rt; run.err.held() == b"swiftq: not built\n".as_slice());
-    assert!(rt; run.out.held().is_empty());
+    let usage =
+        "usage: run [--workers N] | plain | check | tree | generate SIDE SEED | sample SIDE SEED [--workers N]";
+    let cases = [
+        ("fly", usage),
+        ("--workers 4 run", usage),
+        ("run --workers x", usage),
+        ("run --workers 65", "workers must be 1 to 64, not 65"),
+        ("generate 33 1", "side must be 1 to 32, not 33"),
+    ];
+    for (job, line) in cases {
+        let run = do_job(&rt, alloc, job, text.as_str())?;
+        assert!(rt; matches!(run.status, Status::Usage(_)), "{job}");
+        let want = format!(in alloc; "swiftq: {line}\n")?;
+        assert!(rt; run.err.held() == want.as_bytes(), "{job}");
+        assert!(rt; run.out.held().is_empty(), "{job}");
+    }
+    Ok(())
+}
+
+/// The deck of one site: mass 1918, h 131072, and momenta drawn from seed 0. It gives itself no force.
+#[test]
+fn deck_of_one_site(rt: HostRuntime) -> Result<(), Fail> {
+    let alloc = rt.alloc();
+    let written = do_job(&rt, alloc, "generate 1 0", "")?;
+    assert_eq!(rt; written.status, Status::Done);
+    let text = String::from_utf8(Vec::from_slice(alloc, written.out.held())?)?;
+    assert!(rt;
+        text.as_str().starts_with("ticks = 4\nevery = 4\nbin_min = 0\nbin_max = 0\nsound = 256\n")
+    );
+    assert!(rt;
+        text.as_str()
+            .contains("slack = 1024\n[[particle]]\nmass = 1918\nh = 131072\n")
+    );
+    let summary = "tick 0 rho 39073 qx -4895526 qy 1343286 qz -4156560\n\
+        tick 4 rho 39073 qx -4895526 qy 1343286 qz -4156560\n";
+    for job in ["sample 1 0", "sample 1 0 --workers 4"] {
+        let run = do_job(&rt, alloc, job, "")?;
+        assert_eq!(rt; run.status, Status::Done, "{job}");
+        assert!(rt; run.out.held() == summary.as_bytes(), "{job}");
+    }
+    Ok(())
+}
+
+#[test]
+fn workers_change_nothing(rt: HostRuntime) -> Result<(), Fail> {
+    let alloc = rt.alloc();
+    let text = deck(alloc, ONE_SNAPSHOT, &[LIGHT])?;
+    for job in ["run", "run --workers 4", "run --workers=2", "plain"] {
+        let run = do_job(&rt, alloc, job, text.as_str())?;
+        assert_eq!(rt; run.status, Status::Done, "{job}");
+        assert!(rt; run.out.held() == ONE_PARTICLE.as_slice(), "{job}");
+    }
     Ok(())
 }
 

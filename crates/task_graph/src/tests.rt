@@ -7,6 +7,7 @@ use crate::Graph;
 use cell_tree::{Span, Tree};
 use sph_num::Kind;
 use std::alloc::{AllocError, Global};
+use std::process::Abort;
 
 /// The spans of two cells, of which the one's leaves come before the other's: each alone, and both.
 fn spans_of(tree: &Tree, low: u32, high: u32) -> [Span; 3]
@@ -55,6 +56,23 @@ fn eight_corners(alloc: Global) -> Result<Tree, AllocError>
     Tree::build(alloc, &points, &[1024; 8], 1)
 }
 
+/// The graph of the spans of two cells, of which the one's leaves come before the other's.
+fn graph_on(
+    rt: &impl Abort,
+    alloc: Global,
+    tree: &Tree,
+    low: u32,
+    high: u32,
+    due: &[bool],
+    drift: bool,
+) -> Result<Graph, AllocError>
+    requires { length due.now ≡ length tree.now.points }
+{
+    assert!(rt; low < tree.cells() && high < tree.cells());
+    assert!(rt; tree.leaves_below(low).1 <= tree.leaves_below(high).0);
+    Graph::build(alloc, tree, &spans_of(tree, low, high), due, drift)
+}
+
 fn push_edges(graph: &Graph, task: u32, edges: &mut Vec<(u32, u32)>) -> Result<(), AllocError>
     requires { task < length graph.now.tasks }
 {
@@ -94,15 +112,8 @@ fn all_weights(alloc: Global, graph: &Graph) -> Result<Vec<u64>, AllocError> {
 #[test]
 fn joins_two_leaves(rt: HostRuntime) -> Result<(), AllocError> {
     let tree = two_leaves(rt.alloc())?;
-    assert!(rt; tree.cells() == 12);
-    assert!(rt; tree.leaves_below(10).1 <= tree.leaves_below(11).0);
-    let graph = Graph::build(
-        rt.alloc(),
-        &tree,
-        &spans_of(&tree, 10, 11),
-        &[true; 2],
-        false,
-    )?;
+    assert_eq!(rt; tree.cells(), 12);
+    let graph = graph_on(&rt, rt.alloc(), &tree, 10, 11, &[true; 2], false)?;
     assert!(rt; graph.tasks() == 10);
     assert_eq!(rt; graph.kind(2), Kind::Density);
     assert_eq!(rt; graph.cells_of(2), (10, Some(11)));
@@ -141,15 +152,8 @@ fn joins_two_leaves(rt: HostRuntime) -> Result<(), AllocError> {
 #[test]
 fn drifts_each_leaf_first(rt: HostRuntime) -> Result<(), AllocError> {
     let tree = two_leaves(rt.alloc())?;
-    assert!(rt; tree.cells() == 12);
-    assert!(rt; tree.leaves_below(10).1 <= tree.leaves_below(11).0);
-    let graph = Graph::build(
-        rt.alloc(),
-        &tree,
-        &spans_of(&tree, 10, 11),
-        &[true; 2],
-        true,
-    )?;
+    assert_eq!(rt; tree.cells(), 12);
+    let graph = graph_on(&rt, rt.alloc(), &tree, 10, 11, &[true; 2], true)?;
     assert!(rt; graph.tasks() == 12);
     assert_eq!(rt; graph.kind(1), Kind::Drift);
     assert_eq!(rt; graph.cells_of(0), (10, None));
@@ -164,15 +168,8 @@ fn drifts_each_leaf_first(rt: HostRuntime) -> Result<(), AllocError> {
 #[test]
 fn leaves_out_what_is_not_due(rt: HostRuntime) -> Result<(), AllocError> {
     let tree = two_leaves(rt.alloc())?;
-    assert!(rt; tree.cells() == 12);
-    assert!(rt; tree.leaves_below(10).1 <= tree.leaves_below(11).0);
-    let graph = Graph::build(
-        rt.alloc(),
-        &tree,
-        &spans_of(&tree, 10, 11),
-        &[true, false],
-        false,
-    )?;
+    assert_eq!(rt; tree.cells(), 12);
+    let graph = graph_on(&rt, rt.alloc(), &tree, 10, 11, &[true, false], false)?;
     assert_eq!(rt; graph.tasks(), 8);
     let edges = all_edges(rt.alloc(), &graph)?;
     assert_eq!(rt;
@@ -185,11 +182,9 @@ fn leaves_out_what_is_not_due(rt: HostRuntime) -> Result<(), AllocError> {
 #[test]
 fn joins_inner_cells_at_due_leaves(rt: HostRuntime) -> Result<(), AllocError> {
     let tree = eight_corners(rt.alloc())?;
-    assert!(rt; tree.cells() == 11);
-    assert!(rt; tree.leaves_below(1).1 <= tree.leaves_below(6).0);
-    let spans = spans_of(&tree, 1, 6);
+    assert_eq!(rt; tree.cells(), 11);
     let due = [true, true, false, false, true, false, false, false];
-    let graph = Graph::build(rt.alloc(), &tree, &spans, &due, false)?;
+    let graph = graph_on(&rt, rt.alloc(), &tree, 1, 6, &due, false)?;
     assert_eq!(rt; graph.tasks(), 12);
     let edges = all_edges(rt.alloc(), &graph)?;
     assert_eq!(rt;
@@ -232,11 +227,9 @@ fn joins_inner_cells_at_due_leaves(rt: HostRuntime) -> Result<(), AllocError> {
 #[test]
 fn drifts_only_below_spans(rt: HostRuntime) -> Result<(), AllocError> {
     let tree = eight_corners(rt.alloc())?;
-    assert!(rt; tree.cells() == 11);
-    assert!(rt; tree.leaves_below(1).1 <= tree.leaves_below(7).0);
-    let spans = spans_of(&tree, 1, 7);
+    assert_eq!(rt; tree.cells(), 11);
     let due = [true, false, false, false, false, false, false, false];
-    let graph = Graph::build(rt.alloc(), &tree, &spans, &due, true)?;
+    let graph = graph_on(&rt, rt.alloc(), &tree, 1, 7, &due, true)?;
     assert!(rt; graph.tasks() == 13);
     assert_eq!(rt; graph.kind(4), Kind::Drift);
     assert_eq!(rt; graph.cells_of(3), (5, None));

@@ -1,34 +1,63 @@
--- What the steps of the top call say of each other: the text's answer, the answer before its line, and the line.
+-- What the steps of the top call say of each other: the output, the answer before its line, and the line.
 use Rattle.std.specs.Prelude.{◌≡◌, ℕ, ◌⊎◌, List, [], ⊤}
 use Rattle.std.specs.Io.KnownBytes.{Appends}
 use Rattle.sph_deck.specs.declared.deck.Deck.{Deck}
-use Rattle.sph_deck.specs.declared.fault.DeckFault.{DeckFault}
 use Rattle.sph_deck.specs.FirstFault.{IsFirstFault}
+use Rattle.sph_deck.specs.Lattice.{IsSide}
 use Rattle.sph_edge.specs.Bytes.{AppendsPrefix}
 use Rattle.sph_edge.specs.Causes.{Rose}
 use Rattle.sph_report.specs.DeckLines.{NamesKey}
+use Rattle.sph_run.specs.declared.plain.Form.{Form}
+use Rattle.sph_run.specs.declared.plain.Form.TheVariants.{Snapshots, Summary}
 use Rattle.sph_top.specs.declared.status.Status.{Status}
-use Rattle.sph_top.specs.declared.status.Status.TheVariants.{Done, DeckRefused, WriteFault, NoMemory}
-use Rattle.sph_top.specs.declared.words.Job.{Job}
+use Rattle.sph_top.specs.declared.status.Status.TheVariants.{Done, Usage, DeckRefused, WriteFault, NoMemory}
 use Rattle.sph_top.specs.Answers.{Seen, IsAcceptedDeck}
 use Rattle.sph_top.specs.Lines.{error_line}
-use Rattle.sph_top.specs.Output.{AppendsPieces, output_of}
+use Rattle.sph_top.specs.Output.{AppendsPieces, IsLattice, IsOutputOf, Output, bytes_of, stream, summary}
+use Rattle.sph_words.specs.declared.fault.WordsRefusal.{WordsRefusal}
+use Rattle.sph_words.specs.declared.fault.WordsRefusal.TheVariants.{Fault, Memory}
+use Rattle.sph_words.specs.declared.job.Job.{Job}
+use Rattle.sph_words.specs.declared.job.Job.TheVariants.{Generate, Sample}
 
--- what the answer says of a job's output for a deck: written whole at Done, some first bytes at a write fault, some whole pieces where memory ran out
-abbrev pub Writes : Job → Deck → Status → Seen → Seen → Type 0
-Writes job deck Done out out' = Appends out.bytes out'.bytes (output_of job deck)
-Writes job deck WriteFault out out' = Rose out.faults out'.faults × AppendsPrefix out.bytes out'.bytes (output_of job deck)
-Writes job deck NoMemory out out' = AppendsPieces job deck out.bytes out'.bytes
-Writes job deck _ out out' = ⊥
+-- the answer to words that are refused
+abbrev pub status_of : WordsRefusal → Status
+status_of (Fault fault) = Usage fault
+status_of Memory = NoMemory
+
+-- a job's side is one
+abbrev pub HasSide : Job → Type 0
+HasSide (Generate side seed) = IsSide side
+HasSide (Sample side seed workers) = IsSide side
+HasSide _ = ⊤
+
+-- what the answer says of an output: written whole at Done, some first bytes at a write fault, some whole pieces where memory ran out
+abbrev pub WritesOutput : Output → Status → Seen → Seen → Type 0
+WritesOutput output Done out out' = Appends out.bytes out'.bytes (bytes_of output)
+WritesOutput output WriteFault out out' = Rose out.faults out'.faults × AppendsPrefix out.bytes out'.bytes (bytes_of output)
+WritesOutput output NoMemory out out' = AppendsPieces output out.bytes out'.bytes
+WritesOutput output _ out out' = ⊥
+
+-- the output of a run in each form
+abbrev pub run_output : Form → Deck → Output
+run_output Snapshots deck = stream deck
+run_output Summary deck = summary deck
+
+-- the same of the summary of a generated deck; where memory ran out, nothing may have been written
+abbrev pub WritesSample : ℕ → ℕ → Status → Seen → Seen → Type 0
+WritesSample side seed status out out' =
+    ((status ≡ NoMemory) × Appends out.bytes out'.bytes [])
+    ⊎ ((deck : Deck) × IsLattice side seed deck × WritesOutput (summary deck) status out out')
+
+-- the same of the job's output; where memory ran out, nothing may have been written
+abbrev pub Writes : Job → (Deck → Type 0) → Status → Seen → Seen → Type 0
+Writes job reads status out out' =
+    ((status ≡ NoMemory) × Appends out.bytes out'.bytes [])
+    ⊎ ((output : Output) × IsOutputOf job reads output × WritesOutput output status out out')
 
 -- what the answer says of a text that was read whole, and what came of the job
 abbrev pub Follows : Job → List ℕ → Status → Seen → Seen → Type 0
 Follows job bytes (DeckRefused fault) out out' = IsFirstFault bytes fault
-Follows job bytes Done out out' = (deck : Deck) × IsAcceptedDeck bytes deck × Writes job deck Done out out'
-Follows job bytes WriteFault out out' = (deck : Deck) × IsAcceptedDeck bytes deck × Writes job deck WriteFault out out'
-Follows job bytes NoMemory out out' =
-    Appends out.bytes out'.bytes [] ⊎ ((deck : Deck) × IsAcceptedDeck bytes deck × Writes job deck NoMemory out out')
-Follows job bytes _ out out' = ⊥
+Follows job bytes status out out' = Writes job (IsAcceptedDeck bytes) status out out'
 
 -- the key that a refused deck's line names is one
 abbrev pub NamesItsKey : Status → Type 0
@@ -41,8 +70,14 @@ IsTold status result err err' =
     ((result ≡ status) × Appends err.bytes err'.bytes (error_line status))
     ⊎ ((status ≡ Done → ⊥) × (result ≡ WriteFault) × Rose err.faults err'.faults × AppendsPrefix err.bytes err'.bytes (error_line status))
 
--- the answer was told; or a deck was refused, there was no memory for its line, and that was told
+-- the answers whose line takes memory
+abbrev pub HasMadeLine : Status → Type 0
+HasMadeLine (Usage fault) = ⊤
+HasMadeLine (DeckRefused fault) = ⊤
+HasMadeLine _ = ⊥
+
+-- the answer was told; or there was no memory for its line, and that was told
 abbrev pub Reports : Status → Status → Seen → Seen → Type 0
 Reports status result err err' =
     IsTold status result err err'
-    ⊎ ((fault : DeckFault) × (status ≡ DeckRefused fault) × IsTold NoMemory result err err')
+    ⊎ (HasMadeLine status × IsTold NoMemory result err err')

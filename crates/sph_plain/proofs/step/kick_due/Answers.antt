@@ -67,7 +67,7 @@ loop-i-preserved c =
     let body = get_or_read c.args.bodies.now c.loop-i.i c.index-bodies-i.result (omega arith) c.index-bodies-i.is no_body in
     elim c.if-due.branch [
       | then-due w ↦ w.particles-is ∙ kick_given deck.params c.args.t list c.loop-i.particles c.args.bodies.now c.loop-i.i w.force-f.result w.kick.new.particle c.due.result inside c.loop-i.invariant c.requires.bodies c.due.ensures w.if-due.true (w.force-f.ensures.value ∙ ap (λ b. force_on b c.args.bodies.now) body)
-          (w.kick.ensures ∙ ap (λ (b : Body). kicked_with deck.params c.args.t (get_or c.loop-i.particles c.loop-i.i no_particle) (get_or c.loop-i.particles c.loop-i.i no_particle).rho b.pull.g w.force-f.result) body)
+          (w.kick.ensures ∙ ap (λ g. kicked_with deck.params c.args.t (get_or c.loop-i.particles c.loop-i.i no_particle) (get_or c.loop-i.particles c.loop-i.i no_particle).rho g w.force-f.result) w.g.ensures.value ∙ ap (λ (b : Body). kicked_with deck.params c.args.t (get_or c.loop-i.particles c.loop-i.i no_particle) (get_or c.loop-i.particles c.loop-i.i no_particle).rho b.pull.g w.force-f.result) body)
       | else-due w ↦ w.particles-is ∙ kick_left deck.params c.args.t list c.loop-i.particles c.loop-i.i c.due.result inside c.loop-i.invariant c.due.ensures w.if-due.false
     ]
 

@@ -1,0 +1,13 @@
+pub mod Ranges
+pub mod FirstRows
+pub mod Done
+pub mod DoneMarks
+pub mod LeafMembers
+pub mod SplitSums
+pub mod Others
+pub mod Lines
+pub mod WholeSums
+pub mod RowsHeld
+pub mod OneLeaf
+pub mod TwoBins
+pub mod WorkedPair

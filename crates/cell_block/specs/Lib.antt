@@ -1,0 +1,6 @@
+pub mod Scene
+pub mod Content
+pub mod Blocks
+pub mod Reading
+pub mod Laws
+pub mod inner

@@ -1,0 +1,202 @@
+//! What a block holds before any task is done on it: a list for each field, an element a member.
+ghost use Rattle.std.specs.Prelude.{◌≡◌, ◌<◌, All, IfOk, length, map};
+ghost use Rattle.cell_block.specs.Blocks.{tasks_at};
+ghost use Rattle.cell_block.specs.Scene.{IsGoodScene, is_due_at, is_in, particle_at, touches};
+ghost use Rattle.cell_block.specs.inner.Beginning.{first_force, first_pull, first_rho, first_spot, not_done};
+
+use crate::block::{Mark, Spot};
+use crate::scene::{Scene, TaskLine};
+use sph_bins::due;
+use sph_num::{Length, Particle, Pull, position};
+use std::alloc::{AllocError, Global};
+
+/// The particle of an index, before the step.
+fn start(scene: &Scene, i: u32) -> &Particle
+    requires { i < length scene.now.start }
+    ensures { result.now ≡ particle_at scene.now i }
+{
+    &scene.start.as_slice()[i as usize]
+}
+
+/// Whether the particle is due at the scene's tick.
+fn is_due(scene: &Scene, i: u32) -> bool
+    requires good { IsGoodScene scene.now }
+    requires within { i < length scene.now.start }
+    ensures { result ≡ is_due_at scene.now i }
+{
+    due(scene.tick, start(scene, i).bin)
+}
+
+/// Where the particle stands, and how far it reaches.
+fn spot(scene: &Scene, i: u32) -> Spot
+    requires good { IsGoodScene scene.now }
+    requires within { i < length scene.now.start }
+    ensures { result ≡ first_spot scene.now i }
+{
+    let particle = start(scene, i);
+    let place = if scene.drift {
+        particle.x0
+    } else {
+        position(particle, scene.tick, scene.params.shift)
+    };
+    Spot {
+        place,
+        h: particle.h,
+    }
+}
+
+/// What the particle gives to the forces of its pairs, by the ghost that its last kick left.
+fn pull(scene: &Scene, i: u32) -> Pull
+    requires good { IsGoodScene scene.now }
+    requires within { i < length scene.now.start }
+    ensures { result ≡ first_pull scene.now i }
+{
+    let particle = start(scene, i);
+    Pull::new(Length::new(particle.h), particle.mass, particle.g)
+}
+
+/// The particle's density, not begun where it is due.
+fn rho(scene: &Scene, i: u32) -> u64
+    requires good { IsGoodScene scene.now }
+    requires within { i < length scene.now.start }
+    ensures { result ≡ first_rho scene.now i }
+{
+    if is_due(scene, i) {
+        0
+    } else {
+        start(scene, i).rho
+    }
+}
+
+/// The force on the particle, not begun where it is due.
+fn force(scene: &Scene, i: u32) -> [i128; 3]
+    requires good { IsGoodScene scene.now }
+    requires within { i < length scene.now.start }
+    ensures { result ≡ first_force scene.now i }
+{
+    if is_due(scene, i) {
+        [0; 3]
+    } else {
+        start(scene, i).f
+    }
+}
+
+/// The spots of some particles.
+pub(crate) fn spots(alloc: Global, scene: &Scene, members: &[u32]) -> Result<Vec<Spot>, AllocError>
+    requires good { IsGoodScene scene.now }
+    requires within { All (λ i. i < length scene.now.start) members.now }
+    ensures { IfOk result (λ v. v.items ≡ map (first_spot scene.now) members.now) }
+{
+    let mut spots = Vec::with_capacity(alloc, members.len())?;
+    for i in members {
+        spots.push(spot(scene, *i))?;
+    }
+    Ok(spots)
+}
+
+/// The pulls of some particles.
+pub(crate) fn pulls(alloc: Global, scene: &Scene, members: &[u32]) -> Result<Vec<Pull>, AllocError>
+    requires good { IsGoodScene scene.now }
+    requires within { All (λ i. i < length scene.now.start) members.now }
+    ensures { IfOk result (λ v. v.items ≡ map (first_pull scene.now) members.now) }
+{
+    let mut pulls = Vec::with_capacity(alloc, members.len())?;
+    for i in members {
+        pulls.push(pull(scene, *i))?;
+    }
+    Ok(pulls)
+}
+
+/// Which of some particles are due.
+pub(crate) fn dues(alloc: Global, scene: &Scene, members: &[u32]) -> Result<Vec<bool>, AllocError>
+    requires good { IsGoodScene scene.now }
+    requires within { All (λ i. i < length scene.now.start) members.now }
+    ensures { IfOk result (λ v. v.items ≡ map (is_due_at scene.now) members.now) }
+{
+    let mut dues = Vec::with_capacity(alloc, members.len())?;
+    for i in members {
+        dues.push(is_due(scene, *i))?;
+    }
+    Ok(dues)
+}
+
+/// The densities of some particles.
+pub(crate) fn rhos(alloc: Global, scene: &Scene, members: &[u32]) -> Result<Vec<u64>, AllocError>
+    requires good { IsGoodScene scene.now }
+    requires within { All (λ i. i < length scene.now.start) members.now }
+    ensures { IfOk result (λ v. v.items ≡ map (first_rho scene.now) members.now) }
+{
+    let mut rhos = Vec::with_capacity(alloc, members.len())?;
+    for i in members {
+        rhos.push(rho(scene, *i))?;
+    }
+    Ok(rhos)
+}
+
+/// The forces on some particles.
+pub(crate) fn forces(
+    alloc: Global,
+    scene: &Scene,
+    members: &[u32],
+) -> Result<Vec<[i128; 3]>, AllocError>
+    requires good { IsGoodScene scene.now }
+    requires within { All (λ i. i < length scene.now.start) members.now }
+    ensures { IfOk result (λ v. v.items ≡ map (first_force scene.now) members.now) }
+{
+    let mut forces = Vec::with_capacity(alloc, members.len())?;
+    for i in members {
+        forces.push(force(scene, *i))?;
+    }
+    Ok(forces)
+}
+
+/// Copies of some particles.
+pub(crate) fn particles(
+    alloc: Global,
+    scene: &Scene,
+    members: &[u32],
+) -> Result<Vec<Particle>, AllocError>
+    requires { All (λ i. i < length scene.now.start) members.now }
+    ensures { IfOk result (λ v. v.items ≡ map (particle_at scene.now) members.now) }
+{
+    let mut particles = Vec::with_capacity(alloc, members.len())?;
+    for i in members {
+        particles.push(*start(scene, *i))?;
+    }
+    Ok(particles)
+}
+
+/// The tasks that touch a leaf, rising, none of them done.
+pub(crate) fn marks(alloc: Global, scene: &Scene, leaf: u32) -> Result<Vec<Mark>, AllocError>
+    requires { IsGoodScene scene.now }
+    ensures { IfOk result (λ v. v.items ≡ map not_done (tasks_at scene.now leaf)) }
+{
+    let mut marks = Vec::new(alloc);
+    for (task, line) in scene.tasks.as_slice().iter().enumerate() {
+        if touches(line, leaf) {
+            marks.push(Mark {
+                task: task as u32,
+                done: false,
+            })?;
+        }
+    }
+    Ok(marks)
+}
+
+/// Whether a task touches a leaf.
+fn touches(line: &TaskLine, leaf: u32) -> bool
+    ensures { result ≡ touches line.now leaf }
+{
+    let in_second = match line.second {
+        Some(second) => is_in(second, leaf),
+        None => false,
+    };
+    is_in(line.first, leaf) || in_second
+}
+
+/// Whether a range of leaves has the leaf.
+fn is_in(range: (u32, u32), leaf: u32) -> bool
+    ensures { result ≡ is_in range leaf }
+{
+    range.0 <= leaf && leaf < range.1
+}

@@ -1,0 +1,80 @@
+//! The particles of a leaf during a step.
+ghost use Rattle.std.specs.Prelude.{◌≡◌, ◌<◌, ◌↔◌, [], length, get_or, Contains, IfOk, MatchBool};
+ghost use Rattle.cell_block.specs.Blocks.{Agrees, done_of};
+ghost use Rattle.cell_block.specs.Scene.{IsGoodScene, members_of};
+
+use crate::beginning;
+use crate::scene::Scene;
+use sph_num::{Particle, Pull};
+use std::alloc::{AllocError, Global};
+
+/// Where a member is and how far it reaches: all that the test of a pair's distance reads, in 16 bytes.
+#[derive(Clone, Copy, Debug)]
+pub struct Spot {
+    /// In length units.
+    pub place: [u32; 3],
+    /// The smoothing length, in length units.
+    pub h: u32,
+}
+
+/// A task that touches the block's leaf, and whether it is done there.
+#[derive(Clone, Copy, Debug)]
+pub struct Mark {
+    pub task: u32,
+    pub done: bool,
+}
+
+/// The particles of a leaf with the tasks that are done on it. What a pair of members reads stands in flat
+/// lists of its own, with an element for each member in the order of the leaf.
+#[derive(Debug, Drop)]
+pub struct Block {
+    /// The leaf's number.
+    pub leaf: u32,
+    /// The members by their indices from 0, rising.
+    pub members: Vec<u32>,
+    /// The tasks that touch the leaf, rising.
+    pub marks: Vec<Mark>,
+    pub spots: Vec<Spot>,
+    /// What a member gives to the forces of its pairs: length, mass and ghost.
+    pub pulls: Vec<Pull>,
+    /// Whether a member is due at the tick.
+    pub due: Vec<bool>,
+    /// The densities: of a due member as far as it is summed.
+    pub rhos: Vec<u64>,
+    /// The forces: of a due member as far as they are summed.
+    pub forces: Vec<[i128; 3]>,
+    /// What only a kick reads and writes; density, force and ghost stand in the lists above.
+    pub particles: Vec<Particle>,
+}
+
+impl Block {
+    /// The leaf's particles before any task is done on it. Where the scene asks no drift they stand at their
+    /// places at the tick, else at those of their last kicks.
+    pub fn make(alloc: Global, scene: &Scene, leaf: u32) -> Result<Block, AllocError>
+        requires scene { IsGoodScene scene.now }
+        requires leaf { leaf < length scene.now.leaves }
+        ensures { IfOk result (λ block. Agrees scene.now leaf block × (done_of block ≡ [])) }
+    {
+        let members = members_of(alloc, scene, leaf)?;
+        Ok(Block {
+            leaf,
+            marks: beginning::marks(alloc, scene, leaf)?,
+            spots: beginning::spots(alloc, scene, &members)?,
+            pulls: beginning::pulls(alloc, scene, &members)?,
+            due: beginning::dues(alloc, scene, &members)?,
+            rhos: beginning::rhos(alloc, scene, &members)?,
+            forces: beginning::forces(alloc, scene, &members)?,
+            particles: beginning::particles(alloc, scene, &members)?,
+            members,
+        })
+    }
+}
+
+/// The members of a leaf, as a list of its own.
+fn members_of(alloc: Global, scene: &Scene, leaf: u32) -> Result<Vec<u32>, AllocError>
+    requires { leaf < length scene.now.leaves }
+    ensures { IfOk result (λ v. v.items ≡ members_of scene.now leaf) }
+{
+    let members = scene.leaves.as_slice()[leaf as usize].as_slice();
+    members.iter().copied().collect(alloc)
+}

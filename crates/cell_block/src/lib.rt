@@ -1,0 +1,16 @@
+//! The plain data from which a step starts, and a leaf's block with the tasks that are done on it.
+#![tactic(auto)]
+
+mod beginning;
+mod block;
+mod flat;
+mod laws;
+mod reading;
+mod scene;
+#[cfg(test)]
+mod tests;
+
+pub use block::{Block, Mark, Spot};
+pub use flat::Flat;
+pub use laws::sums_are_whole;
+pub use scene::{LeafList, LeafMembers, LineList, Scene, TaskLine};

@@ -1,0 +1,111 @@
+-- Cutting a bundle of seats in two, making one of two, and looking at two, keep the rule.
+use Rattle.std.proofs.Common.{◌≡◌, ℕ, ◌<◌, List, [], ◌∷◌, slice_get, slice_index, slice_set, count_by, Option, refl, sym, ap, ◌∙◌, subst}
+use Rattle.std.proofs.lemmas.Option.{same_Some}
+use mathlib.Core.Option as maybe
+use mathlib.Core.Option.{none, some}
+use lib.ListN.{get_elem?}
+use Rattle.atomic_table.specs.Table.{State, Me, stepped, Allows, Splits, Joins}
+use Rattle.atomic_table.specs.Table as table
+use Rattle.atomic_table.proofs.Lists.{set_again}
+use Rattle.lists.proofs.Elements.{Contains-head, Contains-later}
+use Rattle.qs_core.specs.Shape.{Shape}
+use Rattle.qs_core.specs.Core.{Core}
+use Rattle.qs_core.proofs.Exclusive.{owned_apart}
+use Rattle.qs_table.specs.declared.view.Bundle.{Bundle}
+use Rattle.qs_table.specs.declared.view.SeatView.{SeatView}
+use Rattle.qs_table.specs.Notes.{claims_of, is_claim, is_release, releases_of}
+use Rattle.qs_table.specs.Rule.{IsShown, Shows}
+use Rattle.qs_table.specs.Seats.{OwnApart}
+use Rattle.qs_table.specs.Views.{no_seats, seats_in}
+use Rattle.qs_table.specs.inner.Plays.{Met, first_alone, pair, together, without_first}
+use Rattle.qs_table.proofs.Bundles.{AreSame, in_bundles, pair_apart, same_joined, same_length, same_split}
+
+-- a word that is written over by itself
+same_word : (ws : List ℕ) → slice_set ws 0 (slice_index ws 0) ≡ ws
+same_word [] = refl
+same_word (w ∷ ws) = refl
+
+-- the seats of one pair are those of the other, where the bundles are one
+same_pair : {P : Type 0} (plan p : P) (v w a b : SeatView) → pair plan v w ≡ pair p a b → (plan ≡ p) × (v ≡ a) × (w ≡ b)
+same_pair plan p v w a b e = (
+  same_Some plan p (ap (λ (x : Bundle _). x.plan) e),
+  same_Some v a (ap (λ (x : Bundle _). slice_get x.seats 0) e),
+  same_Some w b (ap (λ (x : Bundle _). slice_get x.seats 1) e),
+)
+
+module _ {B : Type 0} (shape : Shape) (fits : ℕ → B → Type 0) (done : B → List ℕ) where
+  -- the same seats show the same state
+  same_shown : (core : Core) (slots : List (maybe.Option (Option B))) (known after : List SeatView) → AreSame known after → IsShown shape fits done core slots known → IsShown shape fits done core slots after
+  same_shown core slots known after same shown =
+      let claims : (task : ℕ) → claims_of task after ≡ claims_of task known = λ task. same.sums (λ (v : SeatView). count_by (is_claim task) v.notes) in
+      let releases : (task : ℕ) → releases_of task after ≡ releases_of task known = λ task. same.sums (λ (v : SeatView). count_by (is_release task) v.notes) in
+      record {
+        sound = shown.sound;
+        seats = record {
+          each = λ v c. shown.seats.each v (same.back v c);
+          once = λ place l. same.sums _ ∙ shown.seats.once place l;
+          all = same_length known after same ∙ shown.seats.all;
+        };
+        homes = shown.homes;
+        outs = λ v f c d. shown.outs v f (same.back v c) d;
+        claims = record {
+          one = λ task. rw (claims task) (shown.claims.one task);
+          claimed = λ task l.
+              let was = shown.claims.claimed task l in (
+                λ some. was.0 (subst (λ (n : ℕ). 0 < n) (claims task) some),
+                λ c. subst (λ (n : ℕ). 0 < n) (sym (claims task)) (was.1 c),
+              );
+        };
+        releases = record {
+          one = λ task. rw (releases task) (shown.releases.one task);
+          released = λ task l some. shown.releases.released task l (subst (λ (n : ℕ). 0 < n) (releases task) some);
+        };
+      }
+
+  module _ {P : Type 0} (count : ℕ) where
+    abbrev Rule : State (Option B) (Bundle P) → Type 0
+    Rule = Shows shape fits done count
+
+    same_rule : (s : State (Option B) (Bundle P)) (bs : List (Bundle P)) → AreSame (seats_in s.views) (seats_in bs) → Rule s → Rule (record { words = s.words; homes = s.homes; views = bs })
+    same_rule s bs same rule = record {
+      laws = rule.laws;
+      core = rule.core;
+      words = rule.words;
+      seats = rule.seats;
+      shown = same_shown rule.core s.homes (seats_in s.views) (seats_in bs) same rule.shown;
+    }
+
+    pub splits : (seat : ℕ) (b : Bundle P) → Splits Rule seat b (first_alone b) (without_first b)
+    splits seat b s rule at = same_rule s _ (same_split s.views seat b at) rule
+
+    pub joins : (seat other : ℕ) (b c : Bundle P) → Joins Rule seat b other c (together b c) no_seats
+    joins seat other b c s rule at apart at' = same_rule s _ (same_joined s.views seat other b c apart at at') rule
+
+    -- a look changes nothing, and shows that the two seats own cells that are apart
+    apart_now : (s : State (Option B) (Bundle P)) → Rule s → (seat : ℕ) (plan : P) (v w : SeatView) → get_elem? s.views seat ≡ some (pair plan v w) → OwnApart shape v.holds w.holds
+    apart_now s rule seat plan v w at cell other o o' =
+        let first = in_bundles s.views seat (pair plan v w) v at (Contains-head v (w ∷ [])) in
+        let second = in_bundles s.views seat (pair plan v w) w at (Contains-later v (w ∷ []) w (Contains-head w [])) in
+        owned_apart shape rule.core rule.shown.sound.locks.cells v.place w.place v.holds w.holds cell other (rule.shown.seats.each v first) (rule.shown.seats.each w second)
+        (pair_apart rule.core s.views seat plan v w rule.shown.seats at) o o'
+
+    pub meet_allowed : (slots seat : ℕ) (plan : P) (v w : SeatView) (me : Me (Option B) (Bundle P)) (shapes : P → Shape) → shapes plan ≡ shape → me.0 ≡ pair plan v w
+        → Allows Rule slots seat me 0 (λ n. n) (Met shapes (table.step slots 0 0 0 none) me)
+    meet_allowed slots seat plan v w me shapes is me_is s rule wide at small =
+        let same : s ≡ stepped s 0 (slice_index s.words 0) seat me.1 me.0 table.keeps = λ i. record {
+          words = sym (same_word s.words) i;
+          homes = s.homes;
+          views = sym (set_again s.views seat me.0 at) i;
+        } in (
+          me.0,
+          table.keeps,
+          tt,
+          subst Rule same rule,
+          record {
+            same = refl;
+            apart = λ p a b e.
+                let pairs = same_pair plan p v w a b (sym me_is ∙ e) in
+                subst (λ (x : Shape × SeatView × SeatView). OwnApart x.0 x.1.holds x.2.holds) (λ i. ((sym is ∙ ap shapes pairs.0) i, pairs.1 i, pairs.2 i))
+                (apart_now s rule seat plan v w (at ∙ ap some me_is));
+          },
+        )

@@ -1,0 +1,14 @@
+pub mod Elems
+pub mod Bundles
+pub mod Acts
+pub mod Kept
+pub mod Dealt
+pub mod Opened
+pub mod Ended
+pub mod Given
+pub mod TaskTries
+pub mod Drained
+pub mod Upward
+pub mod Sitting
+pub mod Gathered
+pub mod EmptySeats

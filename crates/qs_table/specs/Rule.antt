@@ -1,0 +1,69 @@
+-- The rule of a table, which holds between any two steps of any seats: its words, the blocks at home and what the seats know show a sound state of the machine.
+use Rattle.std.specs.Prelude.{◌≡◌, ◌↔◌, ◌==◌, ℕ, ◌<◌, ◌≤◌, List, length, count_by, Contains, Option, Some}
+use mathlib.Core.Option as maybe
+use mathlib.Core.Option.{some}
+use lib.ListN.{get_elem?}
+use Rattle.atomic_table.specs.Table.{State}
+use Rattle.qs_core.specs.Shape.{Shape, IsShape}
+use Rattle.qs_core.specs.Core.{Core}
+use Rattle.qs_core.specs.Sound.{IsClaimed, IsDone, IsSound, IsView, outs_of, unreleased}
+use Rattle.qs_table.specs.declared.view.Bundle.{Bundle}
+use Rattle.qs_table.specs.declared.view.Fetched.{Fetched}
+use Rattle.qs_table.specs.declared.view.SeatView.{SeatView}
+use Rattle.qs_table.specs.Notes.{claims_of, releases_of}
+use Rattle.qs_table.specs.Views.{seats_in}
+
+-- the seats are those of the machine: one for each, which holds what the machine's view of it has
+pub record AreSeats (core : Core) (known : List SeatView) : Type 0 where
+  pub each : (v : SeatView) → Contains known v → IsView core v.place v.holds
+  pub once : (place : ℕ) → place < length core.views → count_by (λ (v : SeatView). v.place == place) known ≡ 1
+  pub all : length known ≡ length core.views
+
+-- just these tasks are done on the leaf
+abbrev pub AreDone : Shape → Core → List ℕ → ℕ → Type 0
+AreDone shape core tasks leaf = (task : ℕ) → (Contains tasks task ↔ IsDone shape core task leaf)
+
+-- what a seat has noted of a leaf that it fetched: it has the leaf out, and the tasks are those done there
+pub record IsOutNow (shape : Shape) (core : Core) (v : SeatView) (f : Fetched) : Type 0 where
+  pub out : Contains v.holds.out f.leaf
+  pub tasks : AreDone shape core f.done f.leaf
+
+-- for each task at most one note claims it, and one does just where it is claimed
+pub record AreClaims (shape : Shape) (core : Core) (known : List SeatView) : Type 0 where
+  pub one : (task : ℕ) → claims_of task known ≤ 1
+  pub claimed : (task : ℕ) → task < length shape.tasks → (0 < claims_of task known ↔ IsClaimed shape core task)
+
+-- for each task at most one note releases the last edge into it, and where one does every edge into it is released
+pub record AreReleases (shape : Shape) (core : Core) (known : List SeatView) : Type 0 where
+  pub one : (task : ℕ) → releases_of task known ≤ 1
+  pub released : (task : ℕ) → task < length shape.tasks → 0 < releases_of task known → unreleased shape core task ≡ 0
+
+module _ {B : Type 0} (shape : Shape) (fits : ℕ → B → Type 0) (done : B → List ℕ) where
+  -- the leaf's block is at home: it fits, and has as done tasks just those done on the leaf
+  pub record IsHome (core : Core) (slots : List (maybe.Option (Option B))) (leaf : ℕ) : Type 0 where
+    pub block : B
+    pub at : get_elem? slots leaf ≡ some (some (Some block))
+    pub fitting : fits leaf block
+    pub tasks : AreDone shape core (done block) leaf
+
+  -- there is a slot for each leaf, and each leaf that no seat has out has its block at home
+  pub record AreHomes (core : Core) (slots : List (maybe.Option (Option B))) : Type 0 where
+    pub one_each : length slots ≡ shape.leaves
+    pub each : (leaf : ℕ) → leaf < shape.leaves → outs_of leaf core.views ≡ 0 → IsHome core slots leaf
+
+  -- the state of the machine is shown
+  pub record IsShown (core : Core) (slots : List (maybe.Option (Option B))) (known : List SeatView) : Type 0 where
+    pub sound : IsSound shape core
+    pub seats : AreSeats core known
+    pub homes : AreHomes core slots
+    pub outs : (v : SeatView) (f : Fetched) → Contains known v → Contains v.fetched f → IsOutNow shape core v f
+    pub claims : AreClaims shape core known
+    pub releases : AreReleases shape core known
+
+  -- the rule of a table of so many seats
+  pub record Shows {P : Type 0} (count : ℕ) (s : State (Option B) (Bundle P)) : Type 0 where
+    pub laws : IsShape shape
+    pub core : Core
+    pub words : core.words ≡ s.words
+    pub seats : length core.views ≡ count
+    pub shown : IsShown core s.homes (seats_in s.views)

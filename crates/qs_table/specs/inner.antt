@@ -1,0 +1,5 @@
+-- Definitions between private functions: no public clause cites them.
+pub mod Plays
+pub mod Tokens
+pub mod Slots
+pub mod Lines

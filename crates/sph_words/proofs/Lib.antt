@@ -1,0 +1,6 @@
+mod Cuts
+mod Handed
+mod Matches
+mod NotHanded
+mod NumbersRead
+mod Walked

@@ -1,0 +1,89 @@
+//! Generated decks through the top call.
+use crate::tests::{Outcome, do_job};
+use sph_snap::{Snapshot, read_stream};
+use sph_top::Status;
+use std::alloc::{AllocError, Global};
+use std::test::Fail;
+use std::thread::Threads;
+
+/// The text of a generated deck.
+fn generated<R: Threads + Sync>(rt: &R, alloc: Global, job: &str) -> Result<String, Fail> {
+    let run = do_job(rt, alloc, job, "")?;
+    Ok(String::from_utf8(Vec::from_slice(alloc, run.out.held())?)?)
+}
+
+/// The same deck with another number of members that a leaf may have.
+fn with_leaf(alloc: Global, text: &str, leaf: u32) -> Result<String, Fail> {
+    let (before, after) = text.split_once("leaf = 16\n").ok_or("no leaf")?;
+    Ok(format!(in alloc; "{before}leaf = {leaf}\n{after}")?)
+}
+
+/// The sum of the momenta of a snapshot on each axis.
+fn momentum(snapshot: &Snapshot) -> [i128; 3] {
+    let mut sum = [0_i128; 3];
+    for row in snapshot.rows.as_slice() {
+        for (axis, total) in sum.iter_mut().enumerate() {
+            *total = total.wrapping_add(row.q[axis]);
+        }
+    }
+    sum
+}
+
+#[test]
+fn shows_the_tree_of_a_lattice(rt: HostRuntime) -> Result<(), Fail> {
+    let alloc = rt.alloc();
+    let text = generated(&rt, alloc, "generate 8 7")?;
+    let run = do_job(&rt, alloc, "tree", text.as_str())?;
+    assert_eq!(rt; run.status, Status::Done);
+    let want: &[u8] = b"particles 512 cells 73 leaves 64 deepest 2 largest 8\n\
+          density 36 ghost 64 force 36 kick 64 edges 1536 heaviest 8208\n";
+    assert!(rt; run.out.held() == want);
+    Ok(())
+}
+
+#[test]
+fn one_stream_whatever_the_leaves(rt: HostRuntime) -> Result<(), Fail> {
+    let alloc = rt.alloc();
+    let text = generated(&rt, alloc, "generate 16 7")?;
+    let plain = do_job(&rt, alloc, "plain", text.as_str())?;
+    assert_eq!(rt; plain.status, Status::Done);
+    assert_eq!(rt; plain.out.held().len(), 688_168);
+    for leaf in [16, 1, 256] {
+        let text = with_leaf(alloc, text.as_str(), leaf)?;
+        let run = do_job(&rt, alloc, "run", text.as_str())?;
+        assert_eq!(rt; run.status, Status::Done, "{leaf}");
+        assert!(rt; run.out.held() == plain.out.held(), "{leaf}");
+    }
+    Ok(())
+}
+
+#[test]
+fn one_bin_keeps_the_momentum(rt: HostRuntime) -> Result<(), Fail> {
+    let alloc = rt.alloc();
+    let text = generated(&rt, alloc, "generate 16 6")?;
+    let run = do_job(&rt, alloc, "run", text.as_str())?;
+    assert_eq!(rt; run.status, Status::Done);
+    let read = read_stream(alloc, run.out.held()).ok().ok_or("no stream")?;
+    assert_eq!(rt; read.len(), 2);
+    let first = read.first().ok_or("no snapshot")?;
+    let last = read.last().ok_or("no snapshot")?;
+    assert_eq!(rt; momentum(first), momentum(last));
+    Ok(())
+}
+
+#[test]
+fn samples_are_the_same(rt: HostRuntime) -> Result<(), Fail> {
+    let alloc = rt.alloc();
+    let first = do_job(&rt, alloc, "sample 16 6", "")?;
+    assert_eq!(rt; first.status, Status::Done);
+    let lines = String::from_utf8(Vec::from_slice(alloc, first.out.held())?)?;
+    let mut starts = lines.as_str().lines();
+    assert!(rt; starts.next().ok_or("no line")?.starts_with("tick 0 rho "));
+    assert!(rt; starts.next().ok_or("no line")?.starts_with("tick 4 rho "));
+    assert!(rt; starts.next().is_none());
+    for job in ["sample 16 6", "sample 16 6 --workers 4"] {
+        let again = do_job(&rt, alloc, job, "")?;
+        assert!(rt; again.out.held() == first.out.held(), "{job}");
+    }
+    Ok(())
+}
