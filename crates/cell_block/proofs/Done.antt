@@ -1,5 +1,5 @@
 -- A task more is done: which tests on the done tasks change.
-use Rattle.std.proofs.Common.{◌≡◌, ℕ, ◌&&◌, ◌||◌, Bool, true, false, List, [], ◌∷◌, map, length, inl, inr, refl, ap, sym, ◌∙◌, ◌⊎◌}
+use Rattle.std.proofs.Common.{◌≡◌, ℕ, ◌&&◌, ◌||◌, if◌then◌else◌, Bool, true, false, List, [], ◌∷◌, map, length, inl, inr, refl, ap, sym, ◌∙◌, ◌⊎◌}
 use Rattle.std.specs.List.{Contains, list_any, range_with_len}
 use Rattle.std.proofs.lemmas.Bool.{both_ways, cases_Bool}
 use Rattle.std.proofs.lemmas.Bool.Decides.{same_from_decides}
@@ -51,7 +51,7 @@ pub either_true : (a b : Bool) → (a ≡ true) ⊎ (b ≡ true) → (a || b) �
 either_true true b some = refl
 either_true false b some = elim some [ inl t ↦ absurd (both_ways false refl t) | inr t ↦ t ]
 
-which_true : (a b : Bool) → (a || b) ≡ true → (a ≡ true) ⊎ (b ≡ true)
+pub which_true : (a b : Bool) → (a || b) ≡ true → (a ≡ true) ⊎ (b ≡ true)
 which_true true b t = inl refl
 which_true false b t = inr t
 
@@ -85,6 +85,15 @@ nor_second false b fails = refl
 
 pub both_true : (a b : Bool) → a ≡ true → b ≡ true → (a && b) ≡ true
 both_true a b s t = ap (λ x. x && b) s ∙ t
+
+-- the one of two that a test chooses
+pub chosen : {X : Type 0} (b : Bool) (x y : X) → b ≡ true → (if b then x else y) ≡ x
+chosen true x y is = refl
+chosen false x y is = absurd (both_ways false refl is)
+
+pub not_chosen : {X : Type 0} (b : Bool) (x y : X) → b ≡ false → (if b then x else y) ≡ y
+not_chosen true x y is = absurd (both_ways true is refl)
+not_chosen false x y is = refl
 
 -- a task of another kind changes nothing of this kind; nor does one that touches other leaves
 pub is_done_on_other_kind : (scene : Scene) (kind : Kind) (leaf task : ℕ) (done done' : List ℕ) → AreDoneWith done task done' → same_kind (line_at scene task).kind kind ≡ false

@@ -47,11 +47,11 @@ pub met_none : (scene : Scene) (kind : Kind) (i : ℕ) → met scene kind [] i �
 met_none scene kind i = ap (map (particle_at scene)) (filter_nothing (λ j. false) (λ j. refl) (range_with_len 0 (length scene.start)))
 
 -- a field of one of two particles
-of_either : {X : Type 0} (f : Particle → X) (b : Bool) (p q : Particle) (x : X) → f p ≡ x → f (cond b p q) ≡ cond b x (f q)
+pub of_either : {X : Type 0} (f : Particle → X) (b : Bool) (p q : Particle) (x : X) → f p ≡ x → f (cond b p q) ≡ cond b x (f q)
 of_either f true p q x same = same
 of_either f false p q x same = refl
 
-alike : {X : Type 0} (f : Particle → X) (b : Bool) (p q : Particle) → f p ≡ f q → f (cond b p q) ≡ f q
+pub alike : {X : Type 0} (f : Particle → X) (b : Bool) (p q : Particle) → f p ≡ f q → f (cond b p q) ≡ f q
 alike f true p q same = same
 alike f false p q same = refl
 

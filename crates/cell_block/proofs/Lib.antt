@@ -8,6 +8,10 @@ pub mod Others
 pub mod Lines
 pub mod WholeSums
 pub mod RowsHeld
+pub mod Parts
+pub mod Added
+pub mod Order
+pub mod InOrder
 pub mod OneLeaf
 pub mod TwoBins
 pub mod WorkedPair

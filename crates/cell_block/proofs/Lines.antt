@@ -43,7 +43,7 @@ pub record IsNewlyDone (scene : Scene) (kind : Kind) (task : ℕ) (done done' : 
 abbrev pub brings : Scene → Kind → ℕ → ℕ → ℕ → Bool
 brings scene kind i j task = same_kind (line_at scene task).kind kind && meets kind i j (group_of scene (line_at scene task))
 
-kind_of_same : (a b : Kind) → same_kind a b ≡ true → a ≡ b
+pub kind_of_same : (a b : Kind) → same_kind a b ≡ true → a ≡ b
 kind_of_same Drift Drift t = refl
 kind_of_same Density Density t = refl
 kind_of_same Ghost Ghost t = refl
@@ -51,7 +51,7 @@ kind_of_same Force Force t = refl
 kind_of_same Kick Kick t = refl
 kind_of_same _ _ t = absurd (both_ways false refl t)
 
-both_tests : (a b : Bool) → (a && b) ≡ true → (a ≡ true) × (b ≡ true)
+pub both_tests : (a b : Bool) → (a && b) ≡ true → (a ≡ true) × (b ≡ true)
 both_tests true b t = (refl, t)
 both_tests false b t = absurd (both_ways false refl t)
 

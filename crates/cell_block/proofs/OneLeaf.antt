@@ -21,12 +21,12 @@ use Rattle.cell_block.proofs.Done.{same_kind_of}
 use Rattle.cell_block.proofs.LeafMembers.{Contains-members_in}
 
 -- a line of another kind is none that has this one
-other_kind : (kind : Kind) (line x : TaskLine) → same_kind line.kind kind ≡ false → Some line ≡ Some x → x.kind ≡ kind → ⊥
+pub other_kind : (kind : Kind) (line x : TaskLine) → same_kind line.kind kind ≡ false → Some line ≡ Some x → x.kind ≡ kind → ⊥
 other_kind kind line x differs is same =
     let e : line ≡ x = cc in
     both_ways (same_kind line.kind kind) differs (same_kind_of line.kind kind (ap (λ (l : TaskLine). l.kind) e ∙ same))
 
-nothing : (x : TaskLine) → None ≡ Some x → ⊥
+pub nothing : (x : TaskLine) → None ≡ Some x → ⊥
 nothing x e = cc
 
 -- which of these lines is a density, and which a force

@@ -25,14 +25,14 @@ pub record AreOthers (scene : Scene) (line : TaskLine) (i : ℕ) (others : List 
   pub force : (j : ℕ) → i ≢ j → is_member others j ≡ meets Force i j (group_of scene line)
 
 -- the members of some leaves, without repetitions
-AreDistinct-leaf : (scene : Scene) (leaf : ℕ) → AreLeaves scene → AreDistinct (members_of scene leaf)
+pub AreDistinct-leaf : (scene : Scene) (leaf : ℕ) → AreLeaves scene → AreDistinct (members_of scene leaf)
 AreDistinct-leaf scene leaf are =
     elim (cases_lt leaf (length scene.leaves)) [
       | inl inside ↦ AreDistinct-from_Rises (members_of scene leaf) (AllPairs-from_increasing (members_of scene leaf) (are.rising leaf [] inside))
       | inr past ↦ let none : members_of scene leaf ≡ [] = get_or_past scene.leaves leaf [] past in rw none tt
     ]
 
-AreDistinct-leaves : (scene : Scene) (first n : ℕ) → AreLeaves scene → AreDistinct (flat_map (members_of scene) (range_with_len first n))
+pub AreDistinct-leaves : (scene : Scene) (first n : ℕ) → AreLeaves scene → AreDistinct (flat_map (members_of scene) (range_with_len first n))
 AreDistinct-leaves scene first zero are = tt
 AreDistinct-leaves scene first (suc n) are =
     let rest = range_with_len (first + 1) n in

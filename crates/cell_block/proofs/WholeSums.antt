@@ -39,7 +39,7 @@ touches_in scene first (Some second) leaf i j are at meet =
 touches_alone : (scene : Scene) (line : TaskLine) (leaf i : ℕ) → AreLeaves scene → Contains (members_of scene leaf) i → Contains (members_in scene line.first) i → touches line leaf ≡ true
 touches_alone scene line leaf i are at within = either_true (is_in line.first leaf) (is_in_second line.second leaf) (inl (leaf_is_in scene line.first leaf i are at within))
 
-touches_met : (scene : Scene) (kind : Kind) (line : TaskLine) (leaf i j : ℕ) → AreLeaves scene → Contains (members_of scene leaf) i → MeetsAs kind i j (group_of scene line) → touches line leaf ≡ true
+pub touches_met : (scene : Scene) (kind : Kind) (line : TaskLine) (leaf i j : ℕ) → AreLeaves scene → Contains (members_of scene leaf) i → MeetsAs kind i j (group_of scene line) → touches line leaf ≡ true
 touches_met scene Density line leaf i j are at meet =
     elim meet [
       | inl two ↦ touches_in scene line.first line.second leaf i j are at two.1

@@ -2,5 +2,6 @@ pub mod Scene
 pub mod Content
 pub mod Blocks
 pub mod Reading
+pub mod Tasks
 pub mod Laws
 pub mod inner

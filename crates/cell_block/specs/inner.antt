@@ -1,3 +1,4 @@
 -- Definitions between private functions: no public clause cites them.
 pub mod Beginning
+pub mod FirstTasks
 pub mod OneLeaf

@@ -1,5 +1,5 @@
 -- A step of the machine, as a seat at the shared words makes it.
-use Rattle.std.proofs.Common.{◌≡◌, ℕ, ◌+◌, ◌<◌, ◌⊎◌, ◌↔◌, ◌==◌, cond, Bool, false, List, ◌∷◌, length, slice_index, slice_set, sum_by, count_by, Contains, Some, refl, sym, ap, ◌∙◌, subst, inl, inr, length-set, arith}
+use Rattle.std.proofs.Common.{◌≡◌, ℕ, ◌+◌, ◌<◌, ◌⊎◌, ◌↔◌, ◌==◌, cond, Bool, false, List, ◌∷◌, length, map, slice_index, slice_set, sum_by, count_by, Contains, Some, refl, sym, ap, ◌∙◌, subst, inl, inr, length-set, arith}
 use Rattle.std.specs.Prelude.{⊤}
 use Rattle.std.proofs.lemmas.Bool.{cases_eq, cases_lt, cond_both}
 use Rattle.std.proofs.lemmas.List.Sums.{sum_by_push}
@@ -22,12 +22,13 @@ use Rattle.qs_core.proofs.RunningKept.{same_words}
 use Rattle.qs_core.proofs.Outs.{out_count, outs_change}
 use Rattle.qs_core.proofs.Views.{IsView-changed_other, view_at_is}
 use Rattle.lists.proofs.Counts.{count-pos}
+use Rattle.lists.proofs.Elements.{Contains-map}
 use Rattle.lists.proofs.Places.{slice_get-set_same}
 use Rattle.lists.proofs.Sums.{same_place}
 use Rattle.qs_table.specs.declared.view.Fetched.{Fetched}
 use Rattle.qs_table.specs.declared.view.SeatView.{SeatView}
 use Rattle.qs_table.specs.Notes.{claims_of, is_claim, is_release, releases_of}
-use Rattle.qs_table.specs.Rule.{AreDone, AreSeats, IsOutNow}
+use Rattle.qs_table.specs.Rule.{AreDone, AreOut, AreSeats}
 use Rattle.qs_table.specs.Views.{knows_with, noted}
 use Rattle.qs_table.proofs.Bundles.{Changes, changed_length}
 
@@ -75,6 +76,10 @@ same_out shape view (Return leaf) seen c = absurd c
 same_out shape view (Claim task) seen c =
     cond_both (seen == 0) (record view { running = Some (started shape task) }) view (λ (v : View). v.out ≡ view.out) (λ _. refl) (λ _. refl)
 same_out shape view Release seen c = refl
+
+-- a leaf that is noted is out
+pub fetched_is_out : (fetched : List Fetched) (out : List ℕ) (f : Fetched) → map (λ (g : Fetched). g.leaf) fetched ≡ out → Contains fetched f → Contains out f.leaf
+fetched_is_out fetched out f is c = subst (λ (xs : List ℕ). Contains xs f.leaf) is (Contains-map (λ (g : Fetched). g.leaf) fetched f c)
 
 -- the note of such a step is no claim and no release
 pub no_claim : (shape : Shape) (v : SeatView) (step : Step) (seen task : ℕ) → LeavesTasks step → is_claim task (noted shape v step seen) ≡ false
@@ -220,15 +225,13 @@ module _ (shape : Shape) (laws : IsShape shape) (core : Core) (sound : IsSound s
       }
 
       -- what other seats have noted of their leaves stays right
-      pub others_out : ((u : SeatView) (f : Fetched) → Contains known u → Contains u.fetched f → IsOutNow shape core u f) → (u : SeatView) (f : Fetched) → Contains known u → (u.place ≡ v.place → ⊥)
-          → Contains u.fetched f → IsOutNow shape core_then u f
-      others_out outs u f there apart c =
-          let was = outs u f there c in
-          record {
-            out = was.out;
-            tasks = same_done f.leaf (λ e. apart (same_place (λ (w : View). out_count f.leaf w.out) core.views u.place v.place u.holds v.holds (seats.each u there).is is.is
-                (count-pos u.holds.out f.leaf was.out) (count-pos v.holds.out f.leaf (returns_out f.leaf e)) (sound.locks.leaves.one_out f.leaf))) f.done was.tasks;
-          }
+      pub others_out : (u : SeatView) → Contains known u → (u.place ≡ v.place → ⊥) → AreOut shape core u → AreOut shape core_then u
+      others_out u there apart was = record {
+        leaves = was.leaves;
+        tasks = λ f c.
+            same_done f.leaf (λ e. apart (same_place (λ (w : View). out_count f.leaf w.out) core.views u.place v.place u.holds v.holds (seats.each u there).is is.is
+            (count-pos u.holds.out f.leaf (fetched_is_out u.fetched u.holds.out f was.leaves c)) (count-pos v.holds.out f.leaf (returns_out f.leaf e)) (sound.locks.leaves.one_out f.leaf))) f.done (was.tasks f c);
+      }
 
       -- the notes that count
       pub counts_then : (p : Note → Bool) → sum_by (λ (u : SeatView). count_by p u.notes) after ≡ sum_by (λ (u : SeatView). count_by p u.notes) known + cond {A = ℕ} (p (noted shape v step seen_at)) 1 0

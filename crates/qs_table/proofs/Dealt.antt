@@ -47,7 +47,7 @@ module _ {B : Type 0} (shape : Shape) (fits : ℕ → B → Type 0) (done : B �
           all = same_length known after same ∙ shown.seats.all;
         };
         homes = shown.homes;
-        outs = λ v f c d. shown.outs v f (same.back v c) d;
+        outs = λ v c. shown.outs v (same.back v c);
         claims = record {
           one = λ task. rw (claims task) (shown.claims.one task);
           claimed = λ task l.

@@ -7,7 +7,8 @@ use Rattle.qs_core.specs.Steps.{CanLock}
 use Rattle.qs_table.specs.declared.answers.Try.{Try}
 use Rattle.qs_table.specs.declared.answers.Try.TheVariants.{Got, Busy}
 use Rattle.qs_table.specs.declared.view.SeatView.{SeatView}
-use Rattle.qs_table.specs.Seats.{CanGive, IsEmptySeat, IsIdle, IsIdleSeat, IsNewSeat, TableView, TokenView}
+use Rattle.qs_table.specs.Seats.{CanGive, IsIdle, IsIdleSeat, IsNewSeat, TableView, TokenView}
+use Rattle.qs_table.specs.inner.Tokens.{IsEmptySeat}
 use Rattle.qs_table.specs.Tries.{Gave, Tried, with_cell, without_newest}
 
 module _ {P : Type 0} where

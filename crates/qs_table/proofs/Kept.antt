@@ -1,5 +1,5 @@
 -- A step on a shared word keeps the rule.
-use Rattle.std.proofs.Common.{◌≡◌, ℕ, ◌<◌, ◌==◌, cond, Bool, true, false, List, set, slice_get, slice_index, slice_set, Contains, Option, refl, sym, ap, ◌∙◌, subst, inl, inr, length-set, arith}
+use Rattle.std.proofs.Common.{◌≡◌, ℕ, ◌<◌, ◌==◌, cond, Bool, true, false, List, map, set, slice_get, slice_index, slice_set, Contains, Option, refl, sym, ap, ◌∙◌, subst, inl, inr, length-set, arith}
 use Rattle.std.proofs.lemmas.Option.{same_Some}
 use mathlib.Core.Option as maybe
 use mathlib.Core.Option.{none, some}
@@ -18,7 +18,7 @@ use Rattle.qs_table.specs.declared.view.Bundle.{Bundle}
 use Rattle.qs_table.specs.declared.view.Fetched.{Fetched}
 use Rattle.qs_table.specs.declared.view.SeatView.{SeatView}
 use Rattle.qs_table.specs.Notes.{claims_of, releases_of}
-use Rattle.qs_table.specs.Rule.{AreClaims, AreHomes, AreReleases, IsOutNow, IsShown, Shows}
+use Rattle.qs_table.specs.Rule.{AreClaims, AreHomes, AreOut, AreReleases, IsShown, Shows}
 use Rattle.qs_table.specs.Views.{alone, knows_after, seats_in}
 use Rattle.qs_table.specs.inner.Plays.{Locked, Moved}
 use Rattle.qs_table.proofs.Acts.{IsCellStep, KeepsLeaves, claims_are, core_then, keeps_leaves, leaves_tasks, no_claim, no_release, others_out, outs_are, ready_stays, releases_are, same_done, same_out, seats_then, seen_at, sound_then, task_words_stay, view_then}
@@ -57,15 +57,15 @@ module _ {B : Type 0} (shape : Shape) (fits : ℕ → B → Type 0) (done : B �
 
     module _ (after : List SeatView) (change : Changes known after v view_now) (slots' : Slots) where
       -- the state after it is shown, where what is at home, what this seat has noted of its leaves, and the notes of claims and releases are right
-      pub shown_then : AreHomes shape fits done core_now slots' → ((f : Fetched) → Contains fetched f → IsOutNow shape core_now view_now f) → AreClaims shape core_now after → AreReleases shape core_now after
+      pub shown_then : AreHomes shape fits done core_now slots' → AreOut shape core_now view_now → AreClaims shape core_now after → AreReleases shape core_now after
           → IsShown shape fits done core_now slots' after
       shown_then homes own claims releases = record {
         sound = sound_then shape laws core shown.sound v is_view step allowed;
         seats = seats_then shape laws core shown.sound v is_view step allowed fetched known after change shown.seats;
         homes = homes;
-        outs = λ u f c d. elim (change.cases u c) [
-          | inl e ↦ subst (λ (w : SeatView). IsOutNow shape core_now w f) e (own f (subst (λ (w : SeatView). Contains w.fetched f) (sym e) d))
-          | inr p ↦ others_out shape laws core shown.sound v is_view step allowed fetched known after change shown.seats shown.outs u f p.0 p.1 d
+        outs = λ u c. elim (change.cases u c) [
+          | inl e ↦ subst (AreOut shape core_now) e own
+          | inr p ↦ others_out shape laws core shown.sound v is_view step allowed fetched known after change shown.seats u p.0 p.1 (shown.outs u p.0)
         ];
         claims = claims;
         releases = releases;
@@ -111,13 +111,13 @@ module _ {B : Type 0} (shape : Shape) (fits : ℕ → B → Type 0) (done : B �
           };
     }
 
-    pub own_stay : KeepsLeaves step → ((f : Fetched) → Contains fetched f → Contains v.fetched f) → (f : Fetched) → Contains fetched f → IsOutNow shape core_now view_now f
-    own_stay keeps back f c =
-        let was = shown.outs v f here (back f c) in
-        record {
-          out = subst (λ (xs : List ℕ). Contains xs f.leaf) (sym (same_out shape v.holds step seen_now keeps)) was.out;
-          tasks = same_done shape laws core shown.sound v is_view step allowed f.leaf (λ e. subst KeepsLeaves e keeps) f.done was.tasks;
-        }
+    pub own_stay : KeepsLeaves step → fetched ≡ v.fetched → AreOut shape core_now view_now
+    own_stay keeps same = record {
+      leaves = ap (map (λ (f : Fetched). f.leaf)) same ∙ (shown.outs v here).leaves ∙ sym (same_out shape v.holds step seen_now keeps);
+      tasks = λ f c.
+          same_done shape laws core shown.sound v is_view step allowed f.leaf (λ e. subst KeepsLeaves e keeps) f.done
+          ((shown.outs v here).tasks f (subst (λ (fs : List Fetched). Contains fs f) same c));
+    }
 
   module _ {P : Type 0} (count : ℕ) where
     abbrev pub Rule : State (Option B) (Bundle P) → Type 0
@@ -146,7 +146,7 @@ module _ {B : Type 0} (shape : Shape) (fits : ℕ → B → Type 0) (done : B �
             seats = length-set rule.core.views v.place (knows_after shape v step (words rule.core.words)).holds ∙ rule.seats;
             shown = shown_then rule.core s.homes (seats_in s.views) rule.shown v here step allowed v.fetched (seats_in (set s.views seat (alone plan after))) change s.homes
                 (homes_stay rule.core s.homes (seats_in s.views) rule.shown v here step allowed v.fetched (keeps_leaves step cell))
-                (own_stay rule.core s.homes (seats_in s.views) rule.shown v here step allowed v.fetched (keeps_leaves step cell) (λ f c. c))
+                (own_stay rule.core s.homes (seats_in s.views) rule.shown v here step allowed v.fetched (keeps_leaves step cell) refl)
                 (claims_stay rule.core s.homes (seats_in s.views) rule.shown v here step allowed v.fetched (seats_in (set s.views seat (alone plan after))) change s.homes (leaves_tasks step cell))
                 (releases_stay rule.core s.homes (seats_in s.views) rule.shown v here step allowed v.fetched (seats_in (set s.views seat (alone plan after))) change s.homes (leaves_tasks step cell));
           }

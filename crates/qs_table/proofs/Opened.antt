@@ -22,7 +22,7 @@ use Rattle.qs_core.specs.Sound.{IsClaimed}
 use Rattle.qs_core.proofs.Opening.{none_claimed, opening_is_sound}
 use Rattle.qs_table.specs.declared.view.SeatView.{SeatView}
 use Rattle.qs_table.specs.Notes.{is_claim, is_release}
-use Rattle.qs_table.specs.Rule.{AreSeats, IsShown, Shows}
+use Rattle.qs_table.specs.Rule.{AreOut, AreSeats, IsShown, Shows}
 use Rattle.qs_table.specs.Views.{all_seats, fresh_seat}
 use Rattle.qs_table.specs.inner.Slots.{AreFreshSlots}
 use Rattle.qs_table.specs.inner.Tokens.{IsLaidOut}
@@ -88,7 +88,7 @@ module _ (count : ℕ) where
                     tasks = λ task. (λ c. absurd (h.good.none_done task c), λ d. absurd (none task d.claimed));
                   };
             };
-            outs = λ v f c d. absurd (Contains-nil f (subst (λ (u : SeatView). Contains u.fetched f) (fresh_is v c).0 d));
+            outs = λ v c. subst (AreOut shape (opening shape count)) (sym (fresh_is v c).0) (record { leaves = refl; tasks = λ f d. absurd (Contains-nil f d) });
             claims = record {
               one = λ task. let z = none_noted (is_claim task) in omega arith;
               claimed = λ task l. (λ some. absurd (let z = none_noted (is_claim task) in omega arith), λ c. absurd (none task c));

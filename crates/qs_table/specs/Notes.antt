@@ -14,7 +14,7 @@ IsOnCell Lower = ⊤
 IsOnCell Unlock = ⊤
 IsOnCell _ = ⊥
 
--- all these notes are of such steps
+-- the note is of such a step, and all these notes are
 abbrev pub IsCellNote : Note → Type 0
 IsCellNote note = IsOnCell note.kind
 

@@ -1,5 +1,5 @@
 -- The rule of a table, which holds between any two steps of any seats: its words, the blocks at home and what the seats know show a sound state of the machine.
-use Rattle.std.specs.Prelude.{◌≡◌, ◌↔◌, ◌==◌, ℕ, ◌<◌, ◌≤◌, List, length, count_by, Contains, Option, Some}
+use Rattle.std.specs.Prelude.{◌≡◌, ◌↔◌, ◌==◌, ℕ, ◌<◌, ◌≤◌, List, length, map, count_by, Contains, Option, Some}
 use mathlib.Core.Option as maybe
 use mathlib.Core.Option.{some}
 use lib.ListN.{get_elem?}
@@ -23,10 +23,10 @@ pub record AreSeats (core : Core) (known : List SeatView) : Type 0 where
 abbrev pub AreDone : Shape → Core → List ℕ → ℕ → Type 0
 AreDone shape core tasks leaf = (task : ℕ) → (Contains tasks task ↔ IsDone shape core task leaf)
 
--- what a seat has noted of a leaf that it fetched: it has the leaf out, and the tasks are those done there
-pub record IsOutNow (shape : Shape) (core : Core) (v : SeatView) (f : Fetched) : Type 0 where
-  pub out : Contains v.holds.out f.leaf
-  pub tasks : AreDone shape core f.done f.leaf
+-- what a seat has noted of the leaves that it fetched: they are just those that it has out, in order, and of each the tasks are those done there
+pub record AreOut (shape : Shape) (core : Core) (v : SeatView) : Type 0 where
+  pub leaves : map (λ (f : Fetched). f.leaf) v.fetched ≡ v.holds.out
+  pub tasks : (f : Fetched) → Contains v.fetched f → AreDone shape core f.done f.leaf
 
 -- for each task at most one note claims it, and one does just where it is claimed
 pub record AreClaims (shape : Shape) (core : Core) (known : List SeatView) : Type 0 where
@@ -56,7 +56,7 @@ module _ {B : Type 0} (shape : Shape) (fits : ℕ → B → Type 0) (done : B �
     pub sound : IsSound shape core
     pub seats : AreSeats core known
     pub homes : AreHomes core slots
-    pub outs : (v : SeatView) (f : Fetched) → Contains known v → Contains v.fetched f → IsOutNow shape core v f
+    pub outs : (v : SeatView) → Contains known v → AreOut shape core v
     pub claims : AreClaims shape core known
     pub releases : AreReleases shape core known
 

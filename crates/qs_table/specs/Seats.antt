@@ -2,7 +2,7 @@
 use Rattle.std.specs.Prelude.{◌≡◌, ◌≢◌, ℕ, List, [], Option, Some, None, map}
 use Rattle.atomic_table.specs.Seated.{TableId}
 use Rattle.qs_core.specs.Shape.{Shape, AreApart}
-use Rattle.qs_core.specs.Core.{Owns, View, empty_view}
+use Rattle.qs_core.specs.Core.{Owns, View}
 use Rattle.qs_core.specs.Steps.{HasReturned}
 use Rattle.qs_table.specs.declared.view.SeatView.{SeatView}
 use Rattle.qs_table.specs.Views.{fresh_seat}
@@ -37,11 +37,6 @@ pub record IsIdle (view : View) : Type 0 where
 pub record IsIdleSeat {P : Type 0} (table : TableView P) (seat : TokenView P) : Type 0 where
   pub of_table : IsSeatOf table seat
   pub idle : IsIdle seat.view.holds
-
--- which holds nothing: no cell, no leaf and no task
-pub record IsEmptySeat {P : Type 0} (table : TableView P) (seat : TokenView P) : Type 0 where
-  pub of_table : IsSeatOf table seat
-  pub empty : seat.view.holds ≡ empty_view
 
 -- the seat may give a cell back: it has one, no leaf out, and no task running that isn't returned on all its leaves
 pub record CanGive (view : View) : Type 0 where

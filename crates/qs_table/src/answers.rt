@@ -5,7 +5,8 @@
 pub enum Try {
     /// The cell, or each cell of the task, is owned.
     Got,
-    /// At a step of this try the word of this cell was `seen`: the cell itself was held, or a cell that contains it.
+    /// At a step of this try the word of this cell was `seen`: it is a cell that was tried, and `seen` isn't 0, since it or
+    /// a cell in it was held; or it is one that contains a tried cell, and `seen` is odd, since it was locked.
     Busy { cell: u32, seen: u64 },
 }
 

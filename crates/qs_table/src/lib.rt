@@ -17,7 +17,6 @@ pub use answers::{NoRoom, Try};
 pub use closed::Closed;
 pub use rule::{About, LockRule};
 pub use seat::QsSeat;
-pub use stowed::Stowed;
 pub use table::ResTable;
 pub use threads::{blocks_are_sent, seat_is_sent, table_is_sync};
 pub use view::{Bundle, Fetched, SeatView};

@@ -1,4 +1,4 @@
-//! The memory of a table, which is taken before a block moves.
+//! What of a table's memory is taken before a block moves.
 ghost use Rattle.std.specs.Prelude.{◌≡◌, ◌≤◌, [], length, map, IfOk, vec_capacity};
 ghost use Rattle.std.specs.List.{range_with_len};
 ghost use Rattle.qs_core.specs.Core.{opening};

@@ -97,11 +97,11 @@ impl<W: Work> Play<Option<W::Block>, Bundle<W::Plan>> for Unlocks<W> {
 }
 
 /// A look at two seats in one bundle.
-pub(crate) struct Meets<W> {
+pub(crate) struct Looks<W> {
     work: PhantomData<W>,
 }
 
-impl<W: Work> Play<Option<W::Block>, Bundle<W::Plan>> for Meets<W> {
+impl<W: Work> Play<Option<W::Block>, Bundle<W::Plan>> for Looks<W> {
     ghost use Rattle.qs_table.specs.inner.Plays.{Met};
 
     ghost then = { Met W.shape };

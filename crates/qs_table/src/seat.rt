@@ -101,7 +101,7 @@ impl<W: Work> QsSeat<W> {
     }
 
     /// A seat that owns nothing has no leaf out.
-    pub(crate) fn has_none_out(&self)
+    pub(crate) fn shows_none_out(&self)
         requires { self.now.view.holds.chains ≡ [] }
         ensures { self.now.view.holds.out ≡ [] }
     {

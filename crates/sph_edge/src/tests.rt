@@ -2,8 +2,8 @@
 ghost use Rattle.std.specs.Prelude.{None};
 
 use crate::{
-    Failed, Gate, MemorySink, MemorySource, NoGate, ReadEnd, Sink, Source, StdSink, StdSource,
-    read_whole, write_whole,
+    CountGate, Failed, Gate, MemorySink, MemorySource, NoGate, ReadEnd, Sink, Source, StdSink,
+    StdSource, read_whole, write_whole,
 };
 use std::alloc::{AllocError, Global};
 use std::test::Fail;
@@ -63,6 +63,19 @@ fn works_over_std(rt: HostRuntime) -> Result<(), Fail> {
     assert_eq!(rt; written, bytes);
     NoGate.pass(0, 0);
     Ok(())
+}
+
+/// No contract can say what a gate counts.
+#[test]
+fn counts_passes_and_those_of_worker_0(rt: HostRuntime) {
+    let gate = CountGate::new();
+    assert_eq!(rt; gate.passes(), 0);
+    assert_eq!(rt; gate.firsts(), 0);
+    for (worker, task) in [(0, 7), (2, 0), (0, 7), (1, 3), (0, 0)] {
+        gate.pass(worker, task);
+    }
+    assert_eq!(rt; gate.passes(), 5);
+    assert_eq!(rt; gate.firsts(), 3);
 }
 
 /// A source of eight bytes, at most four a call, that counts the calls without room.

@@ -5,3 +5,4 @@ pub mod Rows
 pub mod Whole
 pub mod Work
 pub mod Momentum
+pub mod Taken

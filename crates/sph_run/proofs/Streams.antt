@@ -10,8 +10,8 @@ use Rattle.std.proofs.lemmas.List.FromFn.{length-map-range_with_len, get_or-map-
 use Rattle.lists.proofs.Ranges.{flat_map_range_more, range-add}
 use Rattle.sph_deck.specs.declared.deck.Deck.{Deck}
 use Rattle.sph_edge.specs.Bytes.{AppendsPrefix}
-use Rattle.sph_run.specs.declared.plain.Form.{Form}
-use Rattle.sph_run.specs.declared.plain.Form.TheVariants.{Snapshots, Summary}
+use Rattle.sph_run.specs.declared.form.Form.{Form}
+use Rattle.sph_run.specs.declared.form.Form.TheVariants.{Snapshots, Summary}
 use Rattle.sph_snap.specs.declared.snapshot.Snapshot.{Snapshot}
 use Rattle.sph_snap.specs.Snapshot.{end_mark, spell}
 use Rattle.sph_run.specs.Stream.{AppendsPiecesIn, output_in, snapshot_at, snapshot_count, snapshots_of}

@@ -8,8 +8,8 @@ use Rattle.sph_bins.specs.Kick.{kicked, next_list}
 use Rattle.sph_deck.specs.declared.deck.Deck.{Deck}
 use Rattle.sph_plain.specs.Run.{after, before, before_step, started}
 use Rattle.sph_report.specs.SummaryLine.{summary_line}
-use Rattle.sph_run.specs.declared.plain.Form.{Form}
-use Rattle.sph_run.specs.declared.plain.Form.TheVariants.{Snapshots, Summary}
+use Rattle.sph_run.specs.declared.form.Form.{Form}
+use Rattle.sph_run.specs.declared.form.Form.TheVariants.{Snapshots, Summary}
 use Rattle.sph_snap.specs.Snapshot.{snapshot_of, spell}
 use Rattle.sph_run.specs.Laws.{DifferInWork, OutputsIgnoreWork}
 use Rattle.sph_run.specs.Stream.{snapshot_count}

@@ -5,7 +5,7 @@ use Rattle.sph_num.specs.Totals.{component, total_by}
 use Rattle.sph_deck.specs.declared.deck.Deck.{Deck}
 use Rattle.sph_deck.specs.Accepted.{AreAccepted}
 use Rattle.sph_plain.specs.Run.{after}
-use Rattle.sph_run.specs.declared.plain.Form.{Form}
+use Rattle.sph_run.specs.declared.form.Form.{Form}
 use Rattle.sph_run.specs.Stream.{IsSnapshotTick, deck_stream, output_in, snapshot_at, snapshots_of}
 use Rattle.sph_snap.specs.declared.snapshot.Snapshot.{Snapshot}
 use Rattle.sph_snap.specs.Snapshot.{IsSnapshot, IsStreamOf}

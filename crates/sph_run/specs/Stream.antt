@@ -6,8 +6,8 @@ use Rattle.sph_num.specs.declared.particle.Params.{Params}
 use Rattle.sph_deck.specs.declared.deck.Deck.{Deck}
 use Rattle.sph_plain.specs.Run.{after}
 use Rattle.sph_report.specs.SummaryLine.{summary_line}
-use Rattle.sph_run.specs.declared.plain.Form.{Form}
-use Rattle.sph_run.specs.declared.plain.Form.TheVariants.{Snapshots, Summary}
+use Rattle.sph_run.specs.declared.form.Form.{Form}
+use Rattle.sph_run.specs.declared.form.Form.TheVariants.{Snapshots, Summary}
 use Rattle.sph_snap.specs.declared.snapshot.Snapshot.{Snapshot}
 use Rattle.sph_snap.specs.Snapshot.{snapshot_of, spell, stream_of}
 

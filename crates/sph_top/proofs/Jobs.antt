@@ -4,7 +4,7 @@ use Rattle.std.specs.Prelude.{option_and_then}
 use Rattle.std.proofs.lemmas.Bool.{leb-true}
 use Rattle.sph_deck.specs.Lattice.{IsSide}
 use Rattle.sph_top.specs.Words.{HasWordsFault, NamesAJob, NamesAReader, NamesJob, reads_deck}
-use Rattle.sph_top.specs.inner.Steps.{HasSide}
+use Rattle.sph_top.specs.inner.Steps.{AreWorkers, HasNumbers}
 use Rattle.sph_words.specs.Jobs.{AnswersWords, asked, is_within, job_with, judged, judged_or_usage, told, with_side, with_workers}
 use Rattle.sph_words.specs.Texts.{texts_of}
 use Rattle.sph_words.specs.declared.fault.WordsFault.{WordsFault}
@@ -62,12 +62,14 @@ bools true b is = (refl, is)
 bools false b is = absurd (true≢false (sym is))
 
 -- what is behind a test of workers, and of a side
-behind_workers : (n : ℕ) (next : Result Job WordsFault) (job : Job) → with_workers n next ≡ Ok job → next ≡ Ok job
-behind_workers n next job = go (is_within 1 64 n)
+behind_workers : (n : ℕ) (next : Result Job WordsFault) (job : Job) → with_workers n next ≡ Ok job → AreWorkers n × (next ≡ Ok job)
+behind_workers n next job = go (is_within 1 64 n) refl
   where
-    go : (b : Bool) → cond b next (Err (Workers n)) ≡ Ok job → next ≡ Ok job
-    go true is = is
-    go false is = cc
+    go : (b : Bool) → is_within 1 64 n ≡ b → cond b next (Err (Workers n)) ≡ Ok job → AreWorkers n × (next ≡ Ok job)
+    go true range is =
+        let parts = bools _ _ range in
+        (record { some = leb-true 1 n parts.0; most = leb-true n 64 parts.1 }, is)
+    go false range is = cc
 
 behind_side : (n : ℕ) (next : Result Job WordsFault) (job : Job) → with_side n next ≡ Ok job → IsSide n × (next ≡ Ok job)
 behind_side n next job = go (is_within 1 32 n) refl
@@ -78,26 +80,28 @@ behind_side n next job = go (is_within 1 32 n) refl
         (record { low = leb-true 1 n parts.0; high = leb-true n 32 parts.1 }, is)
     go false range is = cc
 
-side_judged : (line job : Job) → judged line ≡ Ok job → HasSide job
-side_judged (Run workers) job is =
-    let same : job ≡ Run workers = let next = behind_workers workers (Ok (Run workers)) job is in cc in
-    subst HasSide (sym same) tt
-side_judged Plain job is = let same : job ≡ Plain = cc in subst HasSide (sym same) tt
-side_judged Check job is = let same : job ≡ Check = cc in subst HasSide (sym same) tt
-side_judged Tree job is = let same : job ≡ Tree = cc in subst HasSide (sym same) tt
-side_judged (Generate side seed) job is =
+judged_numbers : (line job : Job) → judged line ≡ Ok job → HasNumbers job
+judged_numbers (Run workers) job is =
+    let next = behind_workers workers (Ok (Run workers)) job is in
+    let same : job ≡ Run workers = let ok = next.1 in cc in
+    subst HasNumbers (sym same) next.0
+judged_numbers Plain job is = let same : job ≡ Plain = cc in subst HasNumbers (sym same) tt
+judged_numbers Check job is = let same : job ≡ Check = cc in subst HasNumbers (sym same) tt
+judged_numbers Tree job is = let same : job ≡ Tree = cc in subst HasNumbers (sym same) tt
+judged_numbers (Generate side seed) job is =
     let next = behind_side side (Ok (Generate side seed)) job is in
     let same : job ≡ Generate side seed = let ok = next.1 in cc in
-    subst HasSide (sym same) next.0
-side_judged (Sample side seed workers) job is =
-    let next = behind_side side (Ok (Sample side seed workers)) job (behind_workers workers (with_side side (Ok (Sample side seed workers))) job is) in
+    subst HasNumbers (sym same) next.0
+judged_numbers (Sample side seed workers) job is =
+    let first = behind_workers workers (with_side side (Ok (Sample side seed workers))) job is in
+    let next = behind_side side (Ok (Sample side seed workers)) job first.1 in
     let same : job ≡ Sample side seed workers = let ok = next.1 in cc in
-    subst HasSide (sym same) next.0
+    subst HasNumbers (sym same) (next.0, first.0)
 
-side_of_line : (line : Option Job) (job : Job) → judged_or_usage line ≡ Ok job → HasSide job
-side_of_line None job is = cc
-side_of_line (Some line) job is = side_judged line job is
+numbers_of_line : (line : Option Job) (job : Job) → judged_or_usage line ≡ Ok job → HasNumbers job
+numbers_of_line None job is = cc
+numbers_of_line (Some line) job is = judged_numbers line job is
 
--- the side of a job that is named is within its range
-pub has_side : (words : List (String Global)) (job : Job) → NamesJob words job → HasSide job
-has_side words job names = side_of_line (option_and_then job_with (texts_of (map string_bytes words))) job names
+-- the numbers of a job that is named are in their ranges
+pub has_numbers : (words : List (String Global)) (job : Job) → NamesJob words job → HasNumbers job
+has_numbers words job names = numbers_of_line (option_and_then job_with (texts_of (map string_bytes words))) job names

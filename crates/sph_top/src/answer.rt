@@ -23,13 +23,13 @@ use std::thread::Threads;
 /// job, writes the output to `out`, and writes the line of a refusal to `err`. So far all is done on the
 /// calling thread, and the number of workers changes nothing.
 pub fn swiftq<R: Threads + Sync, S: Source, O: Sink, E: Sink, G: Gate>(
-    _rt: &R,
+    rt: &R,
     alloc: Global,
     words: &[String],
     source: &mut S,
     out: &mut O,
     err: &mut E,
-    _gate: &G,
+    gate: &G,
 ) -> Status
     // Done: the whole input was read, the whole output written, and `err` is as before.
     ensures done { result ≡ Status.Done → IsDone words.now (seen S.left S.faults source.old) (seen S.left S.faults source.new)
@@ -71,16 +71,18 @@ pub fn swiftq<R: Threads + Sync, S: Source, O: Sink, E: Sink, G: Gate>(
         → Stayed (O.faults out.old) (O.faults out.new) → Stayed (E.faults err.old) (E.faults err.new)
         → (result ≡ Status.Done) ⊎ (result ≡ Status.NoMemory) }
 {
-    let status = answer(alloc, words, source, out);
+    let status = answer(rt, alloc, words, source, out, gate);
     report(alloc, status, err)
 }
 
 /// The answer before its line is written: reads the words, and does their job.
-fn answer<S: Source, O: Sink>(
+fn answer<R: Threads + Sync, S: Source, O: Sink, G: Gate>(
+    rt: &R,
     alloc: Global,
     words: &[String],
     source: &mut S,
     out: &mut O,
+    gate: &G,
 ) -> Status
     ensures rests { Rests result words.now (seen S.left S.faults source.old) (seen S.left S.faults source.new)
         (seen O.held O.faults out.old) (seen O.held O.faults out.new) }
@@ -88,7 +90,7 @@ fn answer<S: Source, O: Sink>(
     ensures untouched { IsWithoutOutput result → out.new ≡ out.old }
 {
     match read_words(alloc, words) {
-        Ok(job) => do_job(alloc, job, source, out),
+        Ok(job) => do_job(rt, alloc, job, source, out, gate),
         Err(refusal) => status_of(refusal),
     }
 }

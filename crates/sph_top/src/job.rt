@@ -4,20 +4,28 @@ ghost use Rattle.std.specs.declared.alloc.Global.{Global};
 ghost use Rattle.std.specs.Prelude.{String};
 ghost use Rattle.sph_top.specs.Answers.{seen, IsAcceptedDeck, IsWithoutOutput, Rests};
 ghost use Rattle.sph_top.specs.Words.{NamesJob, reads_deck};
-ghost use Rattle.sph_top.specs.inner.Steps.{Follows, HasSide, Writes};
+ghost use Rattle.sph_top.specs.inner.Steps.{Follows, HasNumbers, Writes};
 
-use crate::output::{run, sample, write_text};
+use crate::output::{plain, run, sample, write_text};
 use crate::status::Status;
 use sph_deck::{Deck, DeckFault, DeckRefusal, LONGEST_TEXT, lattice, read_deck};
-use sph_edge::{ReadEnd, Sink, Source, read_whole};
+use sph_edge::{Gate, ReadEnd, Sink, Source, read_whole};
 use sph_report::{check_text, tree_text};
 use sph_run::Form;
 use sph_words::Job;
 use std::alloc::Global;
+use std::thread::Threads;
 
 /// Does the job, on the source where it reads a deck.
-pub fn do_job<S: Source, O: Sink>(alloc: Global, job: Job, source: &mut S, out: &mut O) -> Status
-    requires { HasSide job }
+pub fn do_job<R: Threads + Sync, S: Source, O: Sink, G: Gate>(
+    rt: &R,
+    alloc: Global,
+    job: Job,
+    source: &mut S,
+    out: &mut O,
+    gate: &G,
+) -> Status
+    requires numbers { HasNumbers job }
     ensures rests { (words : List (String Global)) → NamesJob words job → Rests result words (seen S.left S.faults source.old) (seen S.left S.faults source.new)
         (seen O.held O.faults out.old) (seen O.held O.faults out.new) }
     ensures unread { reads_deck job ≡ false → source.new ≡ source.old }
@@ -25,20 +33,32 @@ pub fn do_job<S: Source, O: Sink>(alloc: Global, job: Job, source: &mut S, out: 
 {
     match job {
         Job::Generate { side, seed } => write_text(lattice(alloc, side, seed), out),
-        Job::Sample { side, seed, .. } => sample(alloc, side, seed, out),
-        _ => do_on_source(alloc, job, source, out),
+        Job::Sample {
+            side,
+            seed,
+            workers,
+        } => sample(rt, alloc, side, seed, workers, out, gate),
+        _ => do_on_source(rt, alloc, job, source, out, gate),
     }
 }
 
 /// Reads the source whole, and does the job on its deck.
-fn do_on_source<S: Source, O: Sink>(alloc: Global, job: Job, source: &mut S, out: &mut O) -> Status
-    requires { reads_deck job ≡ true }
+fn do_on_source<R: Threads + Sync, S: Source, O: Sink, G: Gate>(
+    rt: &R,
+    alloc: Global,
+    job: Job,
+    source: &mut S,
+    out: &mut O,
+    gate: &G,
+) -> Status
+    requires reads { reads_deck job ≡ true }
+    requires numbers { HasNumbers job }
     ensures rests { (words : List (String Global)) → NamesJob words job → Rests result words (seen S.left S.faults source.old) (seen S.left S.faults source.new)
         (seen O.held O.faults out.old) (seen O.held O.faults out.new) }
     ensures untouched { IsWithoutOutput result → out.new ≡ out.old }
 {
     match read_whole(alloc, source, LONGEST_TEXT) {
-        Ok(bytes) => do_on_text(alloc, job, &bytes, out),
+        Ok(bytes) => do_on_text(rt, alloc, job, &bytes, out, gate),
         Err(ReadEnd::TooLong) => Status::DeckRefused(DeckFault::TooLong),
         Err(ReadEnd::Fault) => Status::ReadFault,
         Err(ReadEnd::Memory) => Status::NoMemory,
@@ -46,26 +66,42 @@ fn do_on_source<S: Source, O: Sink>(alloc: Global, job: Job, source: &mut S, out
 }
 
 /// Reads a deck, and does the job on it where it is accepted.
-fn do_on_text<O: Sink>(alloc: Global, job: Job, bytes: &[u8], out: &mut O) -> Status
-    requires { reads_deck job ≡ true }
+fn do_on_text<R: Threads + Sync, O: Sink, G: Gate>(
+    rt: &R,
+    alloc: Global,
+    job: Job,
+    bytes: &[u8],
+    out: &mut O,
+    gate: &G,
+) -> Status
+    requires reads { reads_deck job ≡ true }
+    requires numbers { HasNumbers job }
     ensures follows { Follows job bytes.now result (seen O.held O.faults out.old) (seen O.held O.faults out.new) }
     ensures untouched { IsWithoutOutput result → out.new ≡ out.old }
 {
     match read_deck(alloc, bytes) {
-        Ok(deck) => write_output(alloc, job, &deck, out),
+        Ok(deck) => write_output(rt, alloc, job, &deck, out, gate),
         Err(DeckRefusal::Fault(fault)) => Status::DeckRefused(fault),
         Err(DeckRefusal::Memory) => Status::NoMemory,
     }
 }
 
 /// Writes the job's output for the deck that it read.
-fn write_output<O: Sink>(alloc: Global, job: Job, deck: &Deck, out: &mut O) -> Status
-    requires { reads_deck job ≡ true }
+fn write_output<R: Threads + Sync, O: Sink, G: Gate>(
+    rt: &R,
+    alloc: Global,
+    job: Job,
+    deck: &Deck,
+    out: &mut O,
+    gate: &G,
+) -> Status
+    requires reads { reads_deck job ≡ true }
+    requires numbers { HasNumbers job }
     ensures { Writes job (λ d. d ≡ deck.now) result (seen O.held O.faults out.old) (seen O.held O.faults out.new) }
 {
     match job {
-        Job::Run { .. } => run(alloc, deck, Form::Snapshots, out),
-        Job::Plain => run(alloc, deck, Form::Snapshots, out),
+        Job::Run { workers } => run(rt, alloc, deck, workers, Form::Snapshots, out, gate),
+        Job::Plain => plain(alloc, deck, out),
         Job::Check => write_text(check_text(alloc, deck), out),
         Job::Tree => write_text(tree_text(alloc, deck), out),
         Job::Generate { .. } | Job::Sample { .. } => unreachable!(),

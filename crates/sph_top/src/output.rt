@@ -2,20 +2,44 @@
 ghost use Rattle.std.specs.Prelude.{◌≡◌, ℕ, List, IfOk};
 ghost use Rattle.sph_deck.specs.Lattice.{IsSide};
 ghost use Rattle.sph_top.specs.Answers.{seen};
-ghost use Rattle.sph_top.specs.Output.{text};
-ghost use Rattle.sph_top.specs.inner.Steps.{WritesOutput, WritesSample, run_output};
+ghost use Rattle.sph_top.specs.Output.{stream, text};
+ghost use Rattle.sph_top.specs.inner.Steps.{AreWorkers, WritesOutput, WritesSample, run_output, status_at};
 
 use crate::status::Status;
 use sph_deck::{Deck, lattice_deck};
-use sph_edge::{Failed, Sink, write_whole};
+use sph_edge::{Failed, Gate, Sink, write_whole};
 use sph_run::{Form, RunEnd, run_plain};
 use std::alloc::{AllocError, Global};
+use std::thread::Threads;
 
-/// Runs a deck, and writes its stream or its summary.
-pub fn run<O: Sink>(alloc: Global, deck: &Deck, form: Form, out: &mut O) -> Status
+/// Runs a deck through the graph of its tasks by so many workers, and writes its stream or its summary.
+pub fn run<R: Threads + Sync, O: Sink, G: Gate>(
+    rt: &R,
+    alloc: Global,
+    deck: &Deck,
+    workers: u32,
+    form: Form,
+    out: &mut O,
+    gate: &G,
+) -> Status
+    requires { AreWorkers workers }
     ensures { WritesOutput (run_output form deck.now) result (seen O.held O.faults out.old) (seen O.held O.faults out.new) }
 {
-    match run_plain(alloc, deck, form, out) {
+    status_at(sph_run::run(rt, alloc, deck, workers, form, out, gate))
+}
+
+/// Runs a deck by sums over all pairs, and writes its stream.
+pub fn plain<O: Sink>(alloc: Global, deck: &Deck, out: &mut O) -> Status
+    ensures { WritesOutput (stream deck.now) result (seen O.held O.faults out.old) (seen O.held O.faults out.new) }
+{
+    status_at(run_plain(alloc, deck, Form::Snapshots, out))
+}
+
+/// The answer at the end of a run.
+fn status_at(end: RunEnd) -> Status
+    ensures { result ≡ status_at end }
+{
+    match end {
         RunEnd::Done => Status::Done,
         RunEnd::WriteFault => Status::WriteFault,
         RunEnd::Memory => Status::NoMemory,
@@ -23,12 +47,21 @@ pub fn run<O: Sink>(alloc: Global, deck: &Deck, form: Form, out: &mut O) -> Stat
 }
 
 /// Runs a generated deck, and writes its summary.
-pub fn sample<O: Sink>(alloc: Global, side: u32, seed: u64, out: &mut O) -> Status
-    requires { IsSide side }
+pub fn sample<R: Threads + Sync, O: Sink, G: Gate>(
+    rt: &R,
+    alloc: Global,
+    side: u32,
+    seed: u64,
+    workers: u32,
+    out: &mut O,
+    gate: &G,
+) -> Status
+    requires side { IsSide side }
+    requires workers { AreWorkers workers }
     ensures { WritesSample side seed result (seen O.held O.faults out.old) (seen O.held O.faults out.new) }
 {
     match lattice_deck(alloc, side, seed) {
-        Ok(deck) => run(alloc, &deck, Form::Summary, out),
+        Ok(deck) => run(rt, alloc, &deck, workers, Form::Summary, out, gate),
         Err(AllocError) => Status::NoMemory,
     }
 }

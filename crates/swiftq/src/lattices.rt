@@ -1,5 +1,6 @@
 //! Generated decks through the top call.
-use crate::tests::{Outcome, do_job};
+use crate::tests::{do_job, do_job_past};
+use sph_edge::CountGate;
 use sph_snap::{Snapshot, read_stream};
 use sph_top::Status;
 use std::alloc::{AllocError, Global};
@@ -12,10 +13,17 @@ fn generated<R: Threads + Sync>(rt: &R, alloc: Global, job: &str) -> Result<Stri
     Ok(String::from_utf8(Vec::from_slice(alloc, run.out.held())?)?)
 }
 
-/// The same deck with another number of members that a leaf may have.
-fn with_leaf(alloc: Global, text: &str, leaf: u32) -> Result<String, Fail> {
-    let (before, after) = text.split_once("leaf = 16\n").ok_or("no leaf")?;
-    Ok(format!(in alloc; "{before}leaf = {leaf}\n{after}")?)
+/// The same deck with another line of its top in place of one.
+fn with_line(alloc: Global, text: &str, old: &str, new: &str) -> Result<String, Fail> {
+    let (before, after) = text.split_once(old).ok_or("no such line")?;
+    Ok(format!(in alloc; "{before}{new}{after}")?)
+}
+
+/// The same deck with its work cut up otherwise.
+fn cut(alloc: Global, text: &str, leaf: u32, pairs: u32, slack: u32) -> Result<String, Fail> {
+    let old = "leaf = 16\npairs = 4096\nslack = 1024\n";
+    let new = format!(in alloc; "leaf = {leaf}\npairs = {pairs}\nslack = {slack}\n")?;
+    with_line(alloc, text, old, new.as_str())
 }
 
 /// The sum of the momenta of a snapshot on each axis.
@@ -49,10 +57,52 @@ fn one_stream_whatever_the_leaves(rt: HostRuntime) -> Result<(), Fail> {
     assert_eq!(rt; plain.status, Status::Done);
     assert_eq!(rt; plain.out.held().len(), 688_168);
     for leaf in [16, 1, 256] {
-        let text = with_leaf(alloc, text.as_str(), leaf)?;
+        let text = cut(alloc, text.as_str(), leaf, 4096, 1024)?;
         let run = do_job(&rt, alloc, "run", text.as_str())?;
         assert_eq!(rt; run.status, Status::Done, "{leaf}");
         assert!(rt; run.out.held() == plain.out.held(), "{leaf}");
+    }
+    Ok(())
+}
+
+/// With one time bin and with several, however the work is cut up.
+#[test]
+fn one_stream_however_the_work_is_cut(rt: HostRuntime) -> Result<(), Fail> {
+    let alloc = rt.alloc();
+    for job in ["generate 8 6", "generate 8 7"] {
+        let text = generated(&rt, alloc, job)?;
+        let plain = do_job(&rt, alloc, "plain", text.as_str())?;
+        assert_eq!(rt; plain.status, Status::Done);
+        for (leaf, pairs, slack) in [
+            (1, 1, 0),
+            (1, 1_073_741_824, 65_535),
+            (16, 64, 65_535),
+            (256, 1, 1024),
+        ] {
+            let text = cut(alloc, text.as_str(), leaf, pairs, slack)?;
+            let run = do_job(&rt, alloc, "run", text.as_str())?;
+            assert_eq!(rt; run.status, Status::Done, "{job} {leaf} {pairs} {slack}");
+            assert!(rt;
+                run.out.held() == plain.out.held(),
+                "{job} {leaf} {pairs} {slack}"
+            );
+        }
+    }
+    Ok(())
+}
+
+/// A run passes the gate once with each task, and sums over all pairs not at all.
+#[test]
+fn passes_each_task(rt: HostRuntime) -> Result<(), Fail> {
+    let alloc = rt.alloc();
+    let text = generated(&rt, alloc, "generate 8 7")?;
+    let text = with_line(alloc, text.as_str(), "ticks = 4\n", "ticks = 0\n")?;
+    for (job, passes) in [("run", 200), ("plain", 0)] {
+        let gate = CountGate::new();
+        let run = do_job_past(&rt, alloc, job, text.as_str(), &gate)?;
+        assert_eq!(rt; run.status, Status::Done, "{job}");
+        assert_eq!(rt; gate.passes(), passes, "{job}");
+        assert_eq!(rt; gate.firsts(), passes, "{job}");
     }
     Ok(())
 }

@@ -2,7 +2,7 @@
 ghost use Rattle.std.specs.Prelude.{◌≤◌};
 
 use sph_deck::{DeckFault, DeckRefusal, bound_of, read_deck};
-use sph_edge::{MemorySink, MemorySource, NoGate, Source};
+use sph_edge::{Gate, MemorySink, MemorySource, NoGate, Source};
 use sph_top::{Status, swiftq};
 use std::alloc::{AllocError, Global};
 use std::test::Fail;
@@ -127,13 +127,14 @@ pub(crate) fn words_for(alloc: Global, job: &str) -> Result<Vec<String>, AllocEr
     Ok(words)
 }
 
-fn run<R: Threads + Sync>(
+fn run<R: Threads + Sync, G: Gate>(
     rt: &R,
     alloc: Global,
     job: &str,
     source: &mut MemorySource,
     mut out: MemorySink,
     mut err: MemorySink,
+    gate: &G,
 ) -> Result<Outcome, AllocError> {
     let words = words_for(alloc, job)?;
     let status = swiftq(
@@ -143,7 +144,7 @@ fn run<R: Threads + Sync>(
         source,
         &mut out,
         &mut err,
-        &NoGate,
+        gate,
     );
     Ok(Outcome { status, out, err })
 }
@@ -155,6 +156,17 @@ pub(crate) fn do_job<R: Threads + Sync>(
     job: &str,
     text: &str,
 ) -> Result<Outcome, AllocError> {
+    do_job_past(rt, alloc, job, text, &NoGate)
+}
+
+/// The same, past a gate.
+pub(crate) fn do_job_past<R: Threads + Sync, G: Gate>(
+    rt: &R,
+    alloc: Global,
+    job: &str,
+    text: &str,
+    gate: &G,
+) -> Result<Outcome, AllocError> {
     let mut source = source(alloc, text, usize::MAX, 0)?;
     run(
         rt,
@@ -163,6 +175,7 @@ pub(crate) fn do_job<R: Threads + Sync>(
         &mut source,
         sink(alloc, 1_048_576, usize::MAX, 0)?,
         sink(alloc, 256, usize::MAX, 0)?,
+        gate,
     )
 }
 
@@ -188,6 +201,7 @@ fn short_sink_fails(rt: HostRuntime) -> Result<(), Fail> {
         &mut source,
         sink(alloc, 108, 40, 3)?,
         sink(alloc, 256, 256, 0)?,
+        &NoGate,
     )?;
     assert_eq!(rt; run.status, Status::WriteFault);
     assert!(rt; run.out.held() == &ONE_PARTICLE[..80]);
@@ -207,6 +221,7 @@ fn failing_source(rt: HostRuntime) -> Result<(), Fail> {
         &mut source,
         sink(alloc, 108, 108, 0)?,
         sink(alloc, 256, 256, 0)?,
+        &NoGate,
     )?;
     assert_eq!(rt; run.status, Status::ReadFault);
     assert!(rt; run.out.held().is_empty());
@@ -225,6 +240,7 @@ fn failing_error_sink(rt: HostRuntime) -> Result<(), Fail> {
         &mut source,
         sink(alloc, 108, 108, 0)?,
         sink(alloc, 256, 256, 1)?,
+        &NoGate,
     )?;
     assert_eq!(rt; run.status, Status::WriteFault);
     assert!(rt; run.out.held().is_empty());
@@ -331,6 +347,7 @@ fn longest_text(rt: HostRuntime) -> Result<(), Fail> {
         &mut whole,
         sink(alloc, 108, 108, 0)?,
         sink(alloc, 256, 256, 0)?,
+        &NoGate,
     )?;
     assert_eq!(rt; done.status, Status::Done);
     assert!(rt; done.out.held() == ONE_PARTICLE.as_slice());
@@ -345,6 +362,7 @@ fn longest_text(rt: HostRuntime) -> Result<(), Fail> {
             &mut longer,
             sink(alloc, 108, 108, 0)?,
             sink(alloc, 256, 256, 0)?,
+            &NoGate,
         )?;
         assert!(rt;
             refused.status == Status::DeckRefused(DeckFault::TooLong),

@@ -11,7 +11,7 @@ use Rattle.qs_table.specs.declared.seat.Cells.TheVariants.{Empty, One, Two}
 use Rattle.qs_table.specs.declared.view.Bundle.{Bundle}
 use Rattle.qs_table.specs.declared.view.SeatView.{SeatView}
 use Rattle.qs_table.specs.Notes.{AreOnCells}
-use Rattle.qs_table.specs.Seats.{TableView}
+use Rattle.qs_table.specs.Seats.{IsSeatOf, TableView, TokenView}
 use Rattle.qs_table.specs.Tries.{owned_chain}
 use Rattle.qs_table.specs.Views.{alone}
 use Rattle.qs_table.specs.inner.Plays.{seat_in}
@@ -31,6 +31,11 @@ pub record IsToken {S P : Type 0} (shape : P → Shape) (me : Me S (Bundle P)) (
   pub slots : (seat_in me.0).holds.out ≡ [] → me.1 ≡ []
   pub home : (seat_in me.0).holds.chains ≡ [] → (seat_in me.0).holds.out ≡ []
   pub on_cells : AreOnCells (seat_in me.0).notes
+
+-- the token is of a seat of the table that holds nothing: no cell, no leaf and no task
+pub record IsEmptySeat {P : Type 0} (table : TableView P) (seat : TokenView P) : Type 0 where
+  pub of_table : IsSeatOf table seat
+  pub empty : seat.view.holds ≡ empty_view
 
 -- the seat holds nothing, and no step so far was a claim
 pub record IsUnused (v : SeatView) : Type 0 where

@@ -6,7 +6,7 @@ ghost use Rattle.qs_table.specs.Views.{all_seats};
 ghost use Rattle.qs_table.specs.inner.Plays.{first_alone, pair, together, without_first};
 ghost use Rattle.qs_table.specs.inner.Tokens.{IsUnused};
 
-use crate::rule::{First, Meets, Whole};
+use crate::rule::{First, Looks, Whole};
 use crate::seat::{LockSeat, QsSeat};
 use crate::table::ResTable;
 use qs_core::Work;
@@ -37,7 +37,7 @@ impl<W: Work> ResTable<W> {
         ensures same { (seat.new.table_id ≡ self.now.id) × (seat.new.me ≡ seat.old.me) }
         ensures apart { (v w : SeatView) → seat.old.me.0 ≡ pair self.now.plan v w → OwnApart (W.shape self.now.plan) v.holds w.holds }
     {
-        self.table.shared.load::<Meets<W>>(seat, 0);
+        self.table.shared.load::<Looks<W>>(seat, 0);
     }
 
     /// Deals all seats, a token for each.

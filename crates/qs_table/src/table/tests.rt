@@ -1,6 +1,6 @@
 //! Tries on the family of four cells, by seats of one thread and of several.
 ghost use Rattle.std.specs.Prelude.{◌≡◌, ◌<◌, ◌≤◌, All, IfOk, length};
-ghost use Rattle.qs_table.specs.Seats.{IsEmptySeat};
+ghost use Rattle.qs_table.specs.inner.Tokens.{IsEmptySeat};
 
 use crate::answers::Try;
 use crate::seat::QsSeat;

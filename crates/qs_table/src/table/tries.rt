@@ -94,7 +94,7 @@ impl<W: Work> ResTable<W> {
     {
         // These calls say that the work keeps its laws, and that a seat without cells has no leaf out.
         let _cells = work.cells();
-        seat.has_none_out();
+        seat.shows_none_out();
         let (first, second) = work.cells_of(task);
         let answer = self.try_cell(seat, first);
         match answer {

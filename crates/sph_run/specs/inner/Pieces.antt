@@ -4,8 +4,8 @@ use Rattle.std.specs.List.{range_with_len}
 use Rattle.sph_deck.specs.declared.deck.Deck.{Deck}
 use Rattle.sph_plain.specs.Run.{after}
 use Rattle.sph_report.specs.SummaryLine.{summary_line}
-use Rattle.sph_run.specs.declared.plain.Form.{Form}
-use Rattle.sph_run.specs.declared.plain.Form.TheVariants.{Snapshots, Summary}
+use Rattle.sph_run.specs.declared.form.Form.{Form}
+use Rattle.sph_run.specs.declared.form.Form.TheVariants.{Snapshots, Summary}
 use Rattle.sph_run.specs.Stream.{snapshot_at}
 use Rattle.sph_snap.specs.Snapshot.{end_mark, spell}
 

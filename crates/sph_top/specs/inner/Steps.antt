@@ -1,5 +1,5 @@
 -- What the steps of the top call say of each other: the output, the answer before its line, and the line.
-use Rattle.std.specs.Prelude.{◌≡◌, ℕ, ◌⊎◌, List, [], ⊤}
+use Rattle.std.specs.Prelude.{◌≡◌, ℕ, ◌≤◌, ◌⊎◌, List, [], ⊤}
 use Rattle.std.specs.Io.KnownBytes.{Appends}
 use Rattle.sph_deck.specs.declared.deck.Deck.{Deck}
 use Rattle.sph_deck.specs.FirstFault.{IsFirstFault}
@@ -7,8 +7,10 @@ use Rattle.sph_deck.specs.Lattice.{IsSide}
 use Rattle.sph_edge.specs.Bytes.{AppendsPrefix}
 use Rattle.sph_edge.specs.Causes.{Rose}
 use Rattle.sph_report.specs.DeckLines.{NamesKey}
-use Rattle.sph_run.specs.declared.plain.Form.{Form}
-use Rattle.sph_run.specs.declared.plain.Form.TheVariants.{Snapshots, Summary}
+use Rattle.sph_run.specs.declared.form.Form.{Form}
+use Rattle.sph_run.specs.declared.form.Form.TheVariants.{Snapshots, Summary}
+use Rattle.sph_run.specs.declared.form.RunEnd.{RunEnd}
+use Rattle.sph_run.specs.declared.form.RunEnd.TheVariants as end
 use Rattle.sph_top.specs.declared.status.Status.{Status}
 use Rattle.sph_top.specs.declared.status.Status.TheVariants.{Done, Usage, DeckRefused, WriteFault, NoMemory}
 use Rattle.sph_top.specs.Answers.{Seen, IsAcceptedDeck}
@@ -17,18 +19,24 @@ use Rattle.sph_top.specs.Output.{AppendsPieces, IsLattice, IsOutputOf, Output, b
 use Rattle.sph_words.specs.declared.fault.WordsRefusal.{WordsRefusal}
 use Rattle.sph_words.specs.declared.fault.WordsRefusal.TheVariants.{Fault, Memory}
 use Rattle.sph_words.specs.declared.job.Job.{Job}
-use Rattle.sph_words.specs.declared.job.Job.TheVariants.{Generate, Sample}
+use Rattle.sph_words.specs.declared.job.Job.TheVariants.{Run, Generate, Sample}
 
 -- the answer to words that are refused
 abbrev pub status_of : WordsRefusal → Status
 status_of (Fault fault) = Usage fault
 status_of Memory = NoMemory
 
--- a job's side is one
-abbrev pub HasSide : Job → Type 0
-HasSide (Generate side seed) = IsSide side
-HasSide (Sample side seed workers) = IsSide side
-HasSide _ = ⊤
+-- so many workers may run a graph
+pub record AreWorkers (workers : ℕ) : Type 0 where
+  pub some : 1 ≤ workers
+  pub most : workers ≤ 64
+
+-- a job's numbers are in their ranges
+abbrev pub HasNumbers : Job → Type 0
+HasNumbers (Run workers) = AreWorkers workers
+HasNumbers (Generate side seed) = IsSide side
+HasNumbers (Sample side seed workers) = IsSide side × AreWorkers workers
+HasNumbers _ = ⊤
 
 -- what the answer says of an output: written whole at Done, some first bytes at a write fault, some whole pieces where memory ran out
 abbrev pub WritesOutput : Output → Status → Seen → Seen → Type 0
@@ -36,6 +44,12 @@ WritesOutput output Done out out' = Appends out.bytes out'.bytes (bytes_of outpu
 WritesOutput output WriteFault out out' = Rose out.faults out'.faults × AppendsPrefix out.bytes out'.bytes (bytes_of output)
 WritesOutput output NoMemory out out' = AppendsPieces output out.bytes out'.bytes
 WritesOutput output _ out out' = ⊥
+
+-- the answer at the end of a run
+abbrev pub status_at : RunEnd → Status
+status_at end.Done = Done
+status_at end.WriteFault = WriteFault
+status_at end.Memory = NoMemory
 
 -- the output of a run in each form
 abbrev pub run_output : Form → Deck → Output

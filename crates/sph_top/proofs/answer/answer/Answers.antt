@@ -1,9 +1,9 @@
-use Rattle.sph_top.proofs.Jobs.{has_side, named, reads_none}
+use Rattle.sph_top.proofs.Jobs.{has_numbers, named, reads_none}
 use Rattle.sph_top.proofs.Texts.{Rests-refused}
 use Rattle.sph_top.proofs.answer.answer.Goals as goal
 
-pub do_job-requires : goal.do_job-requires
-do_job-requires g c = has_side c.args.words.now c.in-Ok.job (named c.args.words.now c.read_words.result c.in-Ok.job c.read_words.ensures c.in-Ok.is)
+pub do_job-requires-clause-numbers : goal.do_job-requires-clause-numbers
+do_job-requires-clause-numbers g c _ _ = has_numbers c.args.words.now c.in-Ok.job (named c.args.words.now c.read_words.result c.in-Ok.job c.read_words.ensures c.in-Ok.is)
 
 pub returns-in-Ok-clause-rests : goal.returns-in-Ok-clause-rests
 returns-in-Ok-clause-rests g c =

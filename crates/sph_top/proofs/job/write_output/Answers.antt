@@ -8,7 +8,7 @@ pub returns-in-Run : goal.returns-in-Run
 returns-in-Run g c = rw c.in-Run.is (inr (stream c.args.deck.now, (c.args.deck.now, refl, refl), c.run.ensures))
 
 pub returns-in-Plain : goal.returns-in-Plain
-returns-in-Plain g c = rw c.in-Plain.is (inr (stream c.args.deck.now, (c.args.deck.now, refl, refl), c.run-in-Plain.ensures))
+returns-in-Plain g c = rw c.in-Plain.is (inr (stream c.args.deck.now, (c.args.deck.now, refl, refl), c.plain.ensures))
 
 pub returns-in-Check : goal.returns-in-Check
 returns-in-Check g c =

@@ -16,7 +16,7 @@ trying g c =
       first_is = ap (λ r. r.0) cells ∙ ap (λ (s : Shape). (task_at s c.args.task).first) same;
       second_is = sym (ap (λ (s : Shape). (task_at s c.args.task).second) same) ∙ sym (ap (λ r. r.1) cells);
       none = c.requires.idle.owns_none;
-      free = record { none_out = c.has_none_out.ensures; none_runs = c.requires.idle.runs_none };
+      free = record { none_out = c.shows_none_out.ensures; none_runs = c.requires.idle.runs_none };
     }
 
 pub try_cell-answer-requires-clause-can : goal.try_cell-answer-requires-clause-can

@@ -1,5 +1,5 @@
 use Rattle.std.proofs.Common.{All, subst}
-use Rattle.qs_table.specs.Seats.{IsEmptySeat}
+use Rattle.qs_table.specs.inner.Tokens.{IsEmptySeat}
 use Rattle.qs_table.proofs.Gathered.{all_before, all_last, popped}
 use Rattle.qs_table.proofs.table.tests.opened_for_two.Goals as goal
 

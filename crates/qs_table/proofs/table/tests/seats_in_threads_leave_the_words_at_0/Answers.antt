@@ -1,5 +1,5 @@
 use Rattle.std.proofs.lemmas.List.Elements.{All-append, All-drop, All-take}
-use Rattle.qs_table.specs.Seats.{IsEmptySeat}
+use Rattle.qs_table.specs.inner.Tokens.{IsEmptySeat}
 use Rattle.qs_table.proofs.EmptySeats.{all_idle}
 use Rattle.qs_table.proofs.table.tests.seats_in_threads_leave_the_words_at_0.Goals as goal
 

@@ -1,4 +1,4 @@
-use Rattle.qs_table.specs.Seats.{IsEmptySeat}
+use Rattle.qs_table.specs.inner.Tokens.{IsEmptySeat}
 use Rattle.qs_table.proofs.table.tests.tries_often.Given as goal
 
 abbrev pub invariant-loop-round : goal.invariant-loop-round

@@ -1,0 +1,14 @@
+pub mod Lists
+pub mod Passed
+pub mod Reach
+pub mod Gathers
+pub mod Densities
+pub mod Forces
+pub mod Taken
+pub mod Range
+pub mod Seen
+pub mod Order
+pub mod AtTick
+pub mod Enter
+pub mod Added
+pub mod Marking

@@ -1,0 +1,43 @@
+-- A member of a list of members is made of what stands at its index in the three lists.
+use Rattle.std.proofs.Common.{◌≡◌, ℕ, ◌-◌, ◌<◌, Bool, true, false, if◌then◌else◌, List, [], ◌∷◌, length, map, get_or, drop, All, Contains, refl, ap, ◌∙◌, arith}
+use Rattle.std.specs.List.{between}
+use Rattle.std.proofs.lemmas.List.Elements.{All-take, All-drop}
+use Rattle.std.specs.Simd.Lanes.{zip2}
+use Rattle.std.proofs.lemmas.Simd.{length-zip2, get_or-zip2}
+use Rattle.lists.proofs.Elements.{Contains-head, Contains-later}
+use Rattle.sph_num.specs.Pull.{Puller}
+use Rattle.cell_block.specs.declared.block.Spot.{Spot}
+use Rattle.cell_kern.specs.declared.members.Member.{Member}
+use Rattle.cell_kern.specs.declared.members.Members.{Members}
+use Rattle.cell_kern.specs.inner.Gathered.{AreMembers, IsSound, list_of, member, members, no_member}
+
+pub length-members : (spots : List Spot) (pulls : List Puller) (due : List Bool) → length pulls ≡ length spots → length due ≡ length spots → length (members spots pulls due) ≡ length spots
+length-members spots pulls due same_pulls same_due =
+    let pairs = length-zip2 member spots pulls (omega arith) in
+    length-zip2 (λ (make : Bool → Member) d. make d) (zip2 member spots pulls) due (omega arith) ∙ pairs
+
+pub length-list_of : (m : Members) → AreMembers m → length (list_of m) ≡ length m.spots.now
+length-list_of m are = length-members m.spots.now m.pulls.now m.due.now are.pulls are.due
+
+pub member_at : (m : Members) (k : ℕ) (spot : Spot) (pull : Puller) (due : Bool) → AreMembers m → k < length m.spots.now → get_or (list_of m) k no_member ≡ member (get_or m.spots.now k spot) (get_or m.pulls.now k pull) (get_or m.due.now k due)
+member_at m k spot pull due are low =
+    let pairs = length-zip2 member m.spots.now m.pulls.now (omega (arith, are.pulls)) in
+    get_or-zip2 (λ (make : Bool → Member) d. make d) (zip2 member m.spots.now m.pulls.now) m.due.now k (member spot pull) due no_member (omega arith) (omega (arith, are.due))
+    ∙ ap (λ (make : Bool → Member). make (get_or m.due.now k due)) (get_or-zip2 member m.spots.now m.pulls.now k spot pull (member spot pull) low (omega (arith, are.pulls)))
+
+pub sound_at : (m : Members) (k : ℕ) → AreMembers m → k < length m.spots.now → IsSound (get_or (list_of m) k no_member)
+sound_at m k are low = are.sound k no_member (omega (arith, length-list_of m are))
+
+-- all in a part of the list are sound, and not many
+pub All-between : {X : Type 0} (P : X → Type 0) (xs : List X) (from upto : ℕ) → All P xs → All P (between from upto xs)
+All-between P xs from upto all = All-take P (upto - from) (drop from xs) (All-drop P from xs all)
+
+-- what holds of both holds of the one that is chosen
+pub either : {X : Type 0} (P : X → Type 0) (b : Bool) (x y : X) → P x → P y → P (if b then x else y)
+either P true x y first second = first
+either P false x y first second = second
+
+-- lists that agree on the elements
+pub map_agree : {X Y : Type 0} (f g : X → Y) (xs : List X) → ((x : X) → Contains xs x → f x ≡ g x) → map f xs ≡ map g xs
+map_agree f g [] same = refl
+map_agree f g (x ∷ xs) same = ap (λ y. y ∷ map f xs) (same x (Contains-head x xs)) ∙ ap (λ ys. g x ∷ ys) (map_agree f g xs (λ y at. same y (Contains-later x xs y at)))

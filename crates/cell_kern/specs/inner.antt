@@ -1,0 +1,3 @@
+-- Definitions between private functions: no public clause cites them.
+pub mod Gathered
+pub mod Taking

@@ -1,0 +1,206 @@
+-- From what a kick wrote into the particles of its block to the task added.
+use Rattle.std.proofs.Common.{◌≡◌, ℕ, zero, suc, ◌+◌, ◌-◌, ◌*◌, ◌^◌, ◌<◌, ◌≤◌, ◌&&◌, not, Bool, true, false, if◌then◌else◌, List, [], length, get_or, refl, sym, ap, ◌∙◌, arith}
+use Rattle.std.specs.Prelude.{ℤ, unsigned_abs}
+use Rattle.std.proofs.lemmas.Bool.{both_ways}
+use Rattle.std.proofs.lemmas.List.{get_or-map, length-map}
+use Rattle.std.proofs.lemmas.Nat.{mul-le, pow_pos}
+use Rattle.sph_num.specs.declared.kind.Kind.TheVariants.{Drift, Density, Ghost, Force, Kick}
+use Rattle.sph_num.specs.declared.particle.Bounds.{Bounds}
+use Rattle.sph_num.specs.declared.particle.Params.{Params}
+use Rattle.sph_num.specs.declared.particle.Particle.{Particle}
+use Rattle.sph_num.specs.Bound.{greatest_force}
+use Rattle.sph_num.specs.Force.{force_of}
+use Rattle.sph_num.specs.Kinds.{same_kind}
+use Rattle.sph_num.specs.Motion.{IsMomentum, position_of}
+use Rattle.sph_num.specs.Pull.{puller}
+use Rattle.sph_num.specs.Totals.{component}
+use Rattle.sph_bins.specs.InBounds.{IsAt}
+use Rattle.sph_bins.specs.Kick.{force_at, ghost_at, kicked, kicked_with}
+use Rattle.sph_bins.proofs.Narrow.{force_at-le}
+use Rattle.sph_bins.proofs.Room.{pow-le}
+use Rattle.cell_block.specs.declared.block.Block.{Block}
+use Rattle.cell_block.specs.declared.block.Spot.{Spot}
+use Rattle.cell_block.specs.declared.scene.Scene.{Scene}
+use Rattle.cell_block.specs.Blocks.{Agrees, IsAdded, IsReady, done_of, rest_of}
+use Rattle.cell_block.specs.Content.{is_done_on, met}
+use Rattle.cell_block.specs.Scene.{IsGoodScene, is_due_at, members_of, no_particle, particle_at, place_of}
+use Rattle.cell_block.specs.Tasks.{IsMarked, IsTask}
+use Rattle.cell_block.proofs.Added.{added}
+use Rattle.cell_block.proofs.Done.{chosen, is_done_on_leaf, is_done_on_other_kind, met_other_kind}
+use Rattle.cell_block.proofs.LeafMembers.{member_inside}
+use Rattle.cell_block.proofs.Order.{all_done}
+use Rattle.cell_block.proofs.Parts.{force_with, parts_held, rest_with, spot_with, where_drifted}
+use Rattle.cell_block.proofs.Ranges.{sound_at}
+use Rattle.cell_block.proofs.WholeSums.{forces_are_whole}
+use Rattle.cell_kick.specs.declared.members.Summed.{Summed}
+use Rattle.cell_kick.specs.inner.Written.{AreEach, CanKick, force_at_index, kick_at, kicked_by, with_rho}
+use Rattle.cell_kick.proofs.Added.{due_at, in_list, leaf_of, member_at, touches_its_leaf}
+use Rattle.cell_kick.proofs.Loops.{written_of_members}
+use Rattle.cell_kick.proofs.Only.{not_kicked}
+use Rattle.cell_kick.proofs.Order.{drift_done}
+
+-- the place at a tick reads nothing of the sums
+pub place_with_rho : (scene : Scene) (p : Particle) (rho : ℕ) → place_of scene (with_rho p rho) ≡ place_of scene p
+unfolding position_of
+place_with_rho scene p rho = refl
+
+place_of_rest : (scene : Scene) (p : Particle) → place_of scene (rest_of p) ≡ place_of scene p
+unfolding position_of
+place_of_rest scene p = refl
+
+-- the greatest force is narrow, since momenta have room for it
+room_for : (m force ticks limit : ℕ) → 1 ≤ ticks → m + force * ticks < limit → force < limit
+room_for m force ticks limit some fits = omega (arith, mul-le force 1 force ticks (omega arith) some)
+
+force_narrow : (params : Params) (bounds : Bounds) (t : ℕ) (i : Particle) → t ≤ params.ticks → i.bin ≤ params.bin_max → IsAt params bounds t i → greatest_force params.sound bounds < 2 ^ 96
+force_narrow params bounds zero i within short at =
+    room_for (unsigned_abs (component i.p 0)) (greatest_force params.sound bounds) (2 * params.ticks + 2 ^ params.bin_max) (2 ^ 96) (omega (arith, pow_pos params.bin_max)) (at.room 0)
+force_narrow params bounds (suc t) i within short at =
+    room_for (unsigned_abs (component i.p 0)) (greatest_force params.sound bounds) (2 * (params.ticks - i.t0) + 2 ^ params.bin_max - 2 ^ i.bin) (2 ^ 96) (omega (arith, pow-le i.bin params.bin_max short, at.since, within)) (at.room 0)
+
+below : (a b limit : ℕ) → a ≤ b → b < limit → a < limit
+below a b limit low high = omega arith
+
+force_small : (scene : Scene) (i : ℕ) → IsGoodScene scene → i < length scene.start → IsMomentum (force_at scene.params scene.tick scene.start (particle_at scene i))
+force_small scene i good inside =
+    let p = particle_at scene i in
+    let are = good.in_bounds in
+    let weak = force_narrow scene.params scene.bounds scene.tick p good.tick.within (are.within i no_particle inside).bin (are.at i no_particle inside) in
+    λ axis. below (unsigned_abs (component (force_at scene.params scene.tick scene.start p) axis)) (greatest_force scene.params.sound scene.bounds) (2 ^ 96) (force_at-le scene.params scene.bounds scene.tick scene.start p are good.tick (in_list scene i inside) axis) weak
+
+-- the kick reads of a particle what stands in no other list
+kicked_rest : (scene : Scene) (p q : Particle) (rho g : ℕ) (f : List ℤ) → rest_of p ≡ rest_of q → f ≡ force_at scene.params scene.tick scene.start q
+    → rest_of (kicked_with scene.params scene.tick (with_rho p rho) rho g f) ≡ rest_of (kicked scene.params scene.tick scene.start q)
+unfolding kicked position_of
+kicked_rest scene p q rho g f rest whole =
+    ap (λ (r : Particle). rest_of (kicked_with scene.params scene.tick r rho g f)) rest ∙ ap (λ (x : List ℤ). rest_of (kicked_with scene.params scene.tick q rho g x)) whole
+
+-- the rest of a member, where the kick is written or not
+rest_after : (due : Bool) (x p q k : Particle) → (due ≡ true → rest_of x ≡ rest_of k) → rest_of p ≡ rest_of q → rest_of (if due then x else p) ≡ rest_of (if due then (if true then k else q) else q)
+rest_after true x p q k made same = made refl
+rest_after false x p q k made same = same
+
+rest_unkicked : (due : Bool) (k q : Particle) → rest_of (if due then (if false then k else q) else q) ≡ rest_of q
+rest_unkicked true k q = refl
+rest_unkicked false k q = refl
+
+-- the lists of a block, as a kick reads them
+pub record AreOf (block : Block) (summed : Summed) : Type 0 where
+  pub spots : summed.spots.now ≡ block.spots.items
+  pub due : summed.due.now ≡ block.due.items
+  pub forces : summed.forces.now ≡ block.forces.items
+
+-- a member of a block that is ready for its kick: the rest of it is as it was, and the force on it and its place are those at the tick
+rest_at : (scene : Scene) (task : ℕ) (block : Block) (k : ℕ) → IsGoodScene scene → IsTask scene Kick task → IsReady scene task (leaf_of scene task) block → k < length block.particles.items → k < length (members_of scene (leaf_of scene task))
+    → rest_of (get_or block.particles.items k no_particle) ≡ rest_of (particle_at scene (get_or (members_of scene (leaf_of scene task)) k 0))
+rest_at scene task block k good is ready inside low =
+    let leaf = leaf_of scene task in
+    let ms = members_of scene leaf in
+    let i = get_or ms k 0 in
+    let p = particle_at scene i in
+    let done = done_of block in
+    let kicks = is_done_on scene Kick leaf done in
+    let parts = parts_held scene leaf done block ready.agrees.rows in
+    let none = not_kicked scene good task leaf block is (touches_its_leaf scene Kick task tt good is) ready in
+    sym (get_or-map rest_of block.particles.items k no_particle no_particle inside) ∙ ap (λ (ps : List Particle). get_or ps k no_particle) parts.particles ∙ get_or-map (rest_with scene kicks) ms k 0 no_particle low
+    ∙ ap (λ b. rest_with scene b i) none ∙ rest_unkicked (is_due_at scene i) (kicked scene.params scene.tick scene.start p) p
+
+force_here : (scene : Scene) (task : ℕ) (block : Block) (k : ℕ) → IsGoodScene scene → IsTask scene Kick task → IsReady scene task (leaf_of scene task) block → k < length (members_of scene (leaf_of scene task))
+    → is_due_at scene (get_or (members_of scene (leaf_of scene task)) k 0) ≡ true
+    → get_or block.forces.items k [] ≡ force_at scene.params scene.tick scene.start (particle_at scene (get_or (members_of scene (leaf_of scene task)) k 0))
+force_here scene task block k good is ready low due =
+    let leaf = leaf_of scene task in
+    let ms = members_of scene leaf in
+    let i = get_or ms k 0 in
+    let p = particle_at scene i in
+    let done = done_of block in
+    let others = met scene Force done i in
+    let touched = touches_its_leaf scene Kick task tt good is in
+    ap (λ (fs : List (List ℤ)). get_or fs k []) (parts_held scene leaf done block ready.agrees.rows).forces ∙ get_or-map (λ i. force_with scene (met scene Force done i) i) ms k 0 [] low
+    ∙ chosen (is_due_at scene i) (force_of (place_of scene) (ghost_at scene.params scene.tick scene.start) others p) p.f due
+    ∙ forces_are_whole scene leaf done i good (all_done scene Force Kick task leaf block is refl touched ready) (member_at scene leaf k low) due
+
+place_here : (scene : Scene) (task : ℕ) (block : Block) (k : ℕ) → IsGoodScene scene → IsTask scene Kick task → IsReady scene task (leaf_of scene task) block → k < length (members_of scene (leaf_of scene task))
+    → is_due_at scene (get_or (members_of scene (leaf_of scene task)) k 0) ≡ true
+    → (get_or block.spots.items k (record { place = []; h = 0 })).place ≡ place_of scene (particle_at scene (get_or (members_of scene (leaf_of scene task)) k 0))
+place_here scene task block k good is ready low due =
+    let leaf = leaf_of scene task in
+    let ms = members_of scene leaf in
+    let i = get_or ms k 0 in
+    let p = particle_at scene i in
+    let done = done_of block in
+    let none : Spot = record { place = []; h = 0 } in
+    let drifted = is_done_on scene Drift leaf done in
+    let touched = touches_its_leaf scene Kick task tt good is in
+    ap (λ (ss : List Spot). (get_or ss k none).place) (parts_held scene leaf done block ready.agrees.rows).spots ∙ ap (λ (s : Spot). s.place) (get_or-map (spot_with scene drifted) ms k 0 none low)
+    ∙ where_drifted scene.drift drifted p.x0 (place_of scene p) (λ drifts. drift_done scene good task leaf i block is touched ready drifts (member_at scene leaf k low) due)
+
+low_of : (scene : Scene) (leaf : ℕ) (block : Block) (k : ℕ) → Agrees scene leaf block → k < length block.particles.items → k < length (members_of scene leaf)
+low_of scene leaf block k agrees inside =
+    let kicks = is_done_on scene Kick leaf (done_of block) in
+    omega (arith, inside, ap length (parts_held scene leaf (done_of block) block agrees.rows).particles, length-map block.particles.items rest_of, length-map (members_of scene leaf) (rest_with scene kicks))
+
+pub can_kick : (scene : Scene) (task : ℕ) (block : Block) (summed : Summed) → IsGoodScene scene → IsTask scene Kick task → IsReady scene task (leaf_of scene task) block → AreOf block summed
+    → (k : ℕ) → k < length block.particles.items → get_or summed.due.now k false ≡ true → CanKick scene summed k (get_or block.particles.items k no_particle)
+can_kick scene task block summed good is ready are k inside flag =
+    let leaf = leaf_of scene task in
+    let ms = members_of scene leaf in
+    let i = get_or ms k 0 in
+    let q = particle_at scene i in
+    let p = get_or block.particles.items k no_particle in
+    let low = low_of scene leaf block k ready.agrees inside in
+    let in_scene = member_inside scene leaf i good.leaves (member_at scene leaf k low) in
+    let sound = sound_at scene i good in_scene in
+    let due : is_due_at scene i ≡ true = sym (ap (λ (bs : List Bool). get_or bs k false) are.due ∙ due_at scene leaf block k ready.agrees low) ∙ flag in
+    let rest = rest_at scene task block k good is ready inside low in
+    let bin : p.bin ≡ q.bin = ap (λ (x : Particle). x.bin) rest in
+    let momentum : p.p ≡ q.p = ap (λ (x : Particle). x.p) rest in
+    let same_place : place_of scene p ≡ place_of scene q = sym (place_of_rest scene p) ∙ ap (place_of scene) rest ∙ place_of_rest scene q in
+    record {
+      bin = rw bin sound.bin;
+      place = ap (λ (ss : List Spot). (get_or ss k (record { place = []; h = 0 })).place) are.spots ∙ place_here scene task block k good is ready low due ∙ sym same_place;
+      force = rw (ap (λ (fs : List (List ℤ)). get_or fs k []) are.forces ∙ force_here scene task block k good is ready low due) (force_small scene i good in_scene);
+      momentum = rw momentum sound.near.momentum;
+    }
+
+pub kick_added : (scene : Scene) (task : ℕ) (before mid after : Block) (summed : Summed) → IsGoodScene scene → IsTask scene Kick task → IsReady scene task (leaf_of scene task) before → AreOf before summed → AreEach (kick_at scene summed) before.particles.items mid.particles.items
+    → record mid { particles = before.particles } ≡ before → IsMarked task mid after → IsAdded scene task (leaf_of scene task) before after
+kick_added scene task before mid after summed good is ready are written unchanged marked =
+    let leaf = leaf_of scene task in
+    let done = done_of before in
+    let done' = done_of after in
+    let ms = members_of scene leaf in
+    let agrees = ready.agrees in
+    let touched = touches_its_leaf scene Kick task tt good is in
+    let drifted = is_done_on scene Drift leaf done in
+    let made = is_done_on scene Ghost leaf done in
+    let kicks = is_done_on scene Kick leaf done in
+    let parts = parts_held scene leaf done before agrees.rows in
+    let long = sym (length-map before.particles.items rest_of) ∙ ap length parts.particles ∙ length-map ms (rest_with scene kicks) in
+    let each = λ (k : ℕ) (low : k < length ms).
+    let i = get_or ms k 0 in
+    let q = particle_at scene i in
+    let p = get_or before.particles.items k no_particle in
+    let inside : k < length before.particles.items = omega (arith, low, long) in
+    let rest = rest_at scene task before k good is ready inside low in
+    let x = kicked_by scene summed k p in
+    ap (λ b. rest_of (if b then x else p)) (ap (λ (bs : List Bool). get_or bs k false) are.due ∙ due_at scene leaf before k agrees low)
+    ∙ rest_after (is_due_at scene i) x p q (kicked scene.params scene.tick scene.start q)
+    (λ due. kicked_rest scene p q (get_or summed.rhos.now k 0) (get_or summed.pulls.now k (puller 0 0 0)).g (force_at_index summed k) rest (ap (λ (fs : List (List ℤ)). get_or fs k []) are.forces ∙ force_here scene task before k good is ready low due))
+    rest in
+    added scene task leaf drifted made true (λ i. met scene Density done i) (λ i. met scene Force done i) before mid after agrees
+    (record { leaf = ap (λ (x : Block). x.leaf) unchanged; members = ap (λ (x : Block). x.members.items) unchanged; marks = ap (λ (x : Block). x.marks.items) unchanged; due = ap (λ (x : Block). x.due.items) unchanged })
+    (record {
+      spots = ap (λ (x : Block). x.spots.items) unchanged ∙ parts.spots;
+      pulls = ap (λ (x : Block). x.pulls.items) unchanged ∙ parts.pulls;
+      rhos = ap (λ (x : Block). x.rhos.items) unchanged ∙ parts.rhos;
+      forces = ap (λ (x : Block). x.forces.items) unchanged ∙ parts.forces;
+      particles = written_of_members rest_of (kick_at scene summed) ms (rest_with scene true) before.particles.items mid.particles.items no_particle long written each;
+    })
+    marked (λ more. record {
+      drift = is_done_on_other_kind scene Drift leaf task done done' more (ap (λ k. same_kind k Drift) is.is_kind);
+      ghosted = is_done_on_other_kind scene Ghost leaf task done done' more (ap (λ k. same_kind k Ghost) is.is_kind);
+      kicked = is_done_on_leaf scene Kick leaf task done done' more is.is_kind touched;
+      densities = λ i. met_other_kind scene Density task i done done' more (ap (λ k. same_kind k Density) is.is_kind);
+      forces = λ i. met_other_kind scene Force task i done done' more (ap (λ k. same_kind k Force) is.is_kind);
+    })

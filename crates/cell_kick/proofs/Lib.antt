@@ -1,0 +1,7 @@
+mod Loops
+mod Order
+mod Only
+pub mod Added
+mod Kicks
+mod FaceScene
+mod Turns

@@ -1,0 +1,4 @@
+pub mod Limits
+mod Edits
+mod Orders
+mod Sifts

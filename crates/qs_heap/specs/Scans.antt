@@ -1,0 +1,26 @@
+-- What a scan of the heap does.
+use Rattle.std.specs.Prelude.{◌≡◌, ℕ, ◌<◌, List, length, All, swap_remove}
+use Rattle.qs_heap.specs.declared.entry.Entry.{Entry}
+use Rattle.qs_heap.specs.Entries.{RemovesEntry, entry_at, entry_of}
+use Rattle.qs_heap.specs.Moves.{MovesInLine}
+
+-- each entry's task is below the limit
+abbrev pub AreBelow : ℕ → List Entry → Type 0
+AreBelow limit = All (λ entry. entry.task < limit)
+
+-- each entry before a place of the list was refused
+abbrev pub RefusedBefore : (ℕ → Type 0) → List Entry → ℕ → Type 0
+RefusedBefore refused entries end = (place : ℕ) → place < end → refused (entry_at entries place).task
+
+-- every entry was refused
+abbrev pub AllRefused : (ℕ → Type 0) → List Entry → Type 0
+AllRefused refused entries = RefusedBefore refused entries (length entries)
+
+-- the entry at a place has this task, each before it was refused, and just that one is gone: the last one took its place and moved from there
+pub record TakesFirst (refused : ℕ → Type 0) (task : ℕ) (old new : List Entry) : Type 0 where
+  pub place : ℕ
+  pub inside : place < length old
+  pub taken : (entry_at old place).task ≡ task
+  pub before : RefusedBefore refused old place
+  pub rest : RemovesEntry (entry_at old place) old new
+  pub moved : MovesInLine (swap_remove old place (entry_of 0 0)) new place

@@ -1,0 +1,6 @@
+pub mod Elems
+pub mod Histories
+pub mod Kept
+pub mod Opened
+pub mod Holding
+pub mod Said

@@ -1,0 +1,4 @@
+pub mod Cut
+pub mod Progress
+pub mod Spans
+pub mod Turns

@@ -1,0 +1,31 @@
+use Rattle.std.proofs.Common.{◌∙◌, arith}
+use Rattle.sph_num.specs.declared.kind.Kind.TheVariants.{Drift, Ghost, Kick}
+use Rattle.sph_step.proofs.Applying.{one_added, one_block, one_ready}
+use Rattle.sph_step.proofs.apply.apply_on_one.Goals as goal
+
+pub bounds-blocks-0 : goal.bounds-blocks-0
+bounds-blocks-0 c = omega (arith, one_block c.args.scene.now c.args.task Drift c.requires.scene c.requires.task tt (c.requires.kind ∙ c.in-Drift.is) c.args.blocks.now c.requires.ready)
+
+pub drift-requires-clause-block : goal.drift-requires-clause-block
+drift-requires-clause-block c = one_ready c.args.scene.now c.args.task Drift c.requires.scene c.requires.task tt (c.requires.kind ∙ c.in-Drift.is) c.args.blocks.now c.requires.ready c.index-blocks-0.result
+
+pub returns-in-Drift : goal.returns-in-Drift
+returns-in-Drift c = one_added c.args.scene.now c.args.task Drift c.requires.scene c.requires.task tt (c.requires.kind ∙ c.in-Drift.is) c.args.blocks.now c.requires.ready c.index-blocks-0.result c.drift.new.block c.drift.ensures
+
+pub bounds-blocks-0-in-Ghost : goal.bounds-blocks-0-in-Ghost
+bounds-blocks-0-in-Ghost c = omega (arith, one_block c.args.scene.now c.args.task Ghost c.requires.scene c.requires.task tt (c.requires.kind ∙ c.in-Ghost.is) c.args.blocks.now c.requires.ready)
+
+pub ghost_-requires-clause-block : goal.ghost_-requires-clause-block
+ghost_-requires-clause-block c = one_ready c.args.scene.now c.args.task Ghost c.requires.scene c.requires.task tt (c.requires.kind ∙ c.in-Ghost.is) c.args.blocks.now c.requires.ready c.index-blocks-0-in-Ghost.result
+
+pub returns-in-Ghost : goal.returns-in-Ghost
+returns-in-Ghost c = one_added c.args.scene.now c.args.task Ghost c.requires.scene c.requires.task tt (c.requires.kind ∙ c.in-Ghost.is) c.args.blocks.now c.requires.ready c.index-blocks-0-in-Ghost.result c.ghost_.new.block c.ghost_.ensures
+
+pub bounds-blocks-0-in-Kick : goal.bounds-blocks-0-in-Kick
+bounds-blocks-0-in-Kick c = omega (arith, one_block c.args.scene.now c.args.task Kick c.requires.scene c.requires.task tt (c.requires.kind ∙ c.in-Kick.is) c.args.blocks.now c.requires.ready)
+
+pub kick-requires-clause-block : goal.kick-requires-clause-block
+kick-requires-clause-block c = one_ready c.args.scene.now c.args.task Kick c.requires.scene c.requires.task tt (c.requires.kind ∙ c.in-Kick.is) c.args.blocks.now c.requires.ready c.index-blocks-0-in-Kick.result
+
+pub returns-in-Kick : goal.returns-in-Kick
+returns-in-Kick c = one_added c.args.scene.now c.args.task Kick c.requires.scene c.requires.task tt (c.requires.kind ∙ c.in-Kick.is) c.args.blocks.now c.requires.ready c.index-blocks-0-in-Kick.result c.kick.new.block c.kick.ensures

@@ -1,0 +1,3 @@
+pub mod Stage
+pub mod Made
+pub mod inner
