@@ -123,13 +123,12 @@ mark_step marks items i task d mark inside are long is =
     let here : i < length items = omega arith in
     rw is (map_over_more (with_done task) marks items i (get_or items i d) inside are (get_or_default items i d (get_or items i d) here))
 
-pub marks_end : (marks items : List Mark) (i task : ℕ) → length marks ≤ i → items ≡ map (with_done task) (take i marks) ++ drop i marks → items ≡ map (with_done task) marks
-marks_end marks items i task over are =
-    are ∙ ap (λ ms. map (with_done task) ms ++ drop i marks) (take_all i marks over) ∙ ap (λ ms. map (with_done task) marks ++ ms) (drop_all i marks over) ∙ append-nil (map (with_done task) marks)
-
--- the marks of a block on which one more task is done
-pub done_after : (marks old items left : List Mark) (i task : ℕ) → left ≡ items → old ≡ marks → length old ≤ i → items ≡ map (with_done task) (take i old) ++ drop i old → Contains (map (λ (m : Mark). m.task) marks) task
-    → AreDoneWith (map (λ (m : Mark). m.task) (filter (λ (m : Mark). m.done) marks)) task (map (λ (m : Mark). m.task) (filter (λ (m : Mark). m.done) left))
-done_after marks old items left i task stays same over are kept =
-    let new : left ≡ map (with_done task) marks = stays ∙ marks_end old items i task over are ∙ ap (map (with_done task)) same in
-    rw new (with_done-more marks task kept)
+-- so all of them, once the loop is over
+pub all_marked : (marks old items left : List Mark) (i task : ℕ) → left ≡ items → old ≡ marks → length old ≤ i → items ≡ map (with_done task) (take i old) ++ drop i old → left ≡ map (with_done task) marks
+all_marked marks old items left i task stays same over are =
+    stays
+    ∙ are
+    ∙ ap (λ ms. map (with_done task) ms ++ drop i old) (take_all i old over)
+    ∙ ap (λ ms. map (with_done task) old ++ ms) (drop_all i old over)
+    ∙ append-nil (map (with_done task) old)
+    ∙ ap (map (with_done task)) same

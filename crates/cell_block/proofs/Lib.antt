@@ -1,5 +1,6 @@
 pub mod Ranges
 pub mod FirstRows
+pub mod TaskLists
 pub mod Done
 pub mod DoneMarks
 pub mod LeafMembers
@@ -11,7 +12,3 @@ pub mod RowsHeld
 pub mod Parts
 pub mod Added
 pub mod Order
-pub mod InOrder
-pub mod OneLeaf
-pub mod TwoBins
-pub mod WorkedPair

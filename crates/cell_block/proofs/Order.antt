@@ -1,11 +1,11 @@
 -- The tasks by their kinds, the edges between them, and what is done on a block before a task.
-use Rattle.std.proofs.Common.{◌≡◌, ℕ, ◌+◌, ◌<◌, ◌&&◌, true, false, List, [], ◌∷◌, ◌++◌, length, map, Contains, inl, inr, subst, refl, sym, ap, ◌∙◌, arith}
+use Rattle.std.proofs.Common.{◌≡◌, ℕ, ◌+◌, ◌<◌, ◌&&◌, true, false, List, [], ◌++◌, length, map, Contains, inl, inr, subst, refl, sym, ap, ◌∙◌, arith}
 use Rattle.std.specs.Prelude.{Option, Some, None}
 use Rattle.std.specs.List.{list_any}
 use Rattle.std.proofs.lemmas.Bool.{both_ways}
 use Rattle.std.proofs.lemmas.List.{get_or_default}
-use Rattle.std.proofs.lemmas.List.Elements.{All-contains, Contains-append_cases}
-use Rattle.lists.proofs.Elements.{Contains-append, Contains-filter, Contains-map}
+use Rattle.std.proofs.lemmas.List.Elements.{All-contains, Contains-append_cases, Contains-append_left, Contains-append_right}
+use Rattle.lists.proofs.Elements.{Contains-filter, Contains-map}
 use Rattle.lists.proofs.Ranges.{Contains-numbers}
 use Rattle.sph_num.specs.declared.kind.Kind.{Kind}
 use Rattle.sph_num.specs.declared.kind.Kind.TheVariants.{Drift, Density, Ghost, Force, Kick}
@@ -61,35 +61,26 @@ in_part scene spans line at =
 
 -- and the lines of a part among all
 from_part : (scene : Scene) (spans : List RangeSpan) (kind : Kind) (line : TaskLine) → Contains (part_of scene spans kind) line → Contains (lines_of scene spans) line
-from_part scene spans Drift line at =
-    let drifts = part_of scene spans Drift in
-    let densities = part_of scene spans Density in
-    let ghosts = part_of scene spans Ghost in
-    let forces = part_of scene spans Force in
-    (Contains-append (drifts ++ densities ++ ghosts ++ forces) (part_of scene spans Kick) line).1
-    (inl ((Contains-append (drifts ++ densities ++ ghosts) forces line).1 (inl ((Contains-append (drifts ++ densities) ghosts line).1 (inl ((Contains-append drifts densities line).1 (inl at)))))))
-from_part scene spans Density line at =
-    let drifts = part_of scene spans Drift in
-    let densities = part_of scene spans Density in
-    let ghosts = part_of scene spans Ghost in
-    let forces = part_of scene spans Force in
-    (Contains-append (drifts ++ densities ++ ghosts ++ forces) (part_of scene spans Kick) line).1
-    (inl ((Contains-append (drifts ++ densities ++ ghosts) forces line).1 (inl ((Contains-append (drifts ++ densities) ghosts line).1 (inl ((Contains-append drifts densities line).1 (inr at)))))))
-from_part scene spans Ghost line at =
-    let drifts = part_of scene spans Drift in
-    let densities = part_of scene spans Density in
-    let ghosts = part_of scene spans Ghost in
-    let forces = part_of scene spans Force in
-    (Contains-append (drifts ++ densities ++ ghosts ++ forces) (part_of scene spans Kick) line).1
-    (inl ((Contains-append (drifts ++ densities ++ ghosts) forces line).1 (inl ((Contains-append (drifts ++ densities) ghosts line).1 (inr at)))))
-from_part scene spans Force line at =
-    let drifts = part_of scene spans Drift in
-    let densities = part_of scene spans Density in
-    let ghosts = part_of scene spans Ghost in
-    let forces = part_of scene spans Force in
-    (Contains-append (drifts ++ densities ++ ghosts ++ forces) (part_of scene spans Kick) line).1 (inl ((Contains-append (drifts ++ densities ++ ghosts) forces line).1 (inr at)))
-from_part scene spans Kick line at =
-    (Contains-append (part_of scene spans Drift ++ part_of scene spans Density ++ part_of scene spans Ghost ++ part_of scene spans Force) (part_of scene spans Kick) line).1 (inr at)
+from_part scene spans kind line at = from kind at
+  where
+    part : Kind → List TaskLine
+    part = part_of scene spans
+
+    among_four : Contains (part Drift ++ part Density ++ part Ghost ++ part Force) line → Contains (lines_of scene spans) line
+    among_four here = Contains-append_left (part Drift ++ part Density ++ part Ghost ++ part Force) (part Kick) line here
+
+    among_three : Contains (part Drift ++ part Density ++ part Ghost) line → Contains (lines_of scene spans) line
+    among_three here = among_four (Contains-append_left (part Drift ++ part Density ++ part Ghost) (part Force) line here)
+
+    among_two : Contains (part Drift ++ part Density) line → Contains (lines_of scene spans) line
+    among_two here = among_three (Contains-append_left (part Drift ++ part Density) (part Ghost) line here)
+
+    from : (k : Kind) → Contains (part k) line → Contains (lines_of scene spans) line
+    from Drift here = among_two (Contains-append_left (part Drift) (part Density) line here)
+    from Density here = among_two (Contains-append_right (part Drift) (part Density) line here)
+    from Ghost here = among_three (Contains-append_right (part Drift ++ part Density) (part Ghost) line here)
+    from Force here = among_four (Contains-append_right (part Drift ++ part Density ++ part Ghost) (part Force) line here)
+    from Kick here = Contains-append_right (part Drift ++ part Density ++ part Ghost ++ part Force) (part Kick) line here
 
 -- a line among the tasks has a number
 pub record IsNumbered (scene : Scene) (line : TaskLine) : Type 0 where

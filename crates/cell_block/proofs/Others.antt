@@ -1,18 +1,19 @@
 -- Whom a density or a force brings together with a member: on one range of leaves all its members, on two those of the other range.
-use Rattle.std.proofs.Common.{◌≡◌, ◌≢◌, ℕ, zero, suc, ◌+◌, ◌-◌, ◌<◌, ◌≤◌, ◌==◌, ◌&&◌, ◌||◌, not, Bool, true, false, List, [], ◌++◌, map, length, inl, inr, refl, ap, sym, subst, ◌∙◌, ◌⊎◌, arith}
+use Rattle.std.proofs.Common.{◌≡◌, ◌≢◌, ℕ, zero, suc, ◌+◌, ◌-◌, ◌<◌, ◌≤◌, ◌==◌, ◌&&◌, ◌||◌, not, Bool, true, false, cond, List, [], ◌++◌, map, filter, length, inl, inr, refl, ap, sym, subst, ◌∙◌, ◌⊎◌, arith}
 use Rattle.std.specs.Prelude.{Option, Some, None}
-use Rattle.std.specs.List.{All, Contains, flat_map, range_with_len}
+use Rattle.std.specs.List.{All, Contains, flat_map, list_any, range_with_len}
 use Rattle.std.proofs.lemmas.Bool.{both_ways, cases_Bool, cases_lt, eqb-true, ne_eqb}
 use Rattle.std.proofs.lemmas.List.{get_or_past}
-use Rattle.std.proofs.lemmas.List.Elements.{All-append, All-map}
+use Rattle.std.proofs.lemmas.List.Elements.{All-append, All-filter, All-map, All-nil}
 use Rattle.std.proofs.lemmas.List.Kept.{AllPairs-from_increasing}
-use Rattle.lists.proofs.Ranges.{range-within}
+use Rattle.lists.proofs.Elements.{All-from_Contains}
+use Rattle.lists.proofs.Ranges.{below_from_numbers, range-within}
 use Rattle.sph_num.specs.declared.kind.Kind.{Kind}
 use Rattle.sph_num.specs.declared.kind.Kind.TheVariants.{Drift, Density, Ghost, Force, Kick}
 use Rattle.sph_num.specs.Cover.{Group, is_member, meets}
 use Rattle.cell_block.specs.declared.scene.Scene.{Scene}
 use Rattle.cell_block.specs.declared.scene.TaskLine.{TaskLine}
-use Rattle.cell_block.specs.Scene.{AreLeaves, IsGoodScene, IsOtherRange, IsRangeSpan, RangeSpan, drifting_leaves, due_leaves, group_of, leaf_line, line_at, lines_of, members_in, members_in_second, members_of, span_line}
+use Rattle.cell_block.specs.Scene.{AreLeaves, IsGoodScene, IsOtherRange, IsRange, IsRangeSpan, RangeSpan, drifting_leaves, due_leaves, group_of, is_due_at, leaf_line, line_at, lines_of, members_in, members_in_second, members_of, span_line, touches}
 use Rattle.cell_block.proofs.LeafMembers.{Contains-from_flat_map, inside_range, is_member-decides, leaf_in_range, same_leaf, within_range}
 use Rattle.cell_block.proofs.SplitSums.{AreDistinct, AreDistinct-append, AreDistinct-from_Rises}
 
@@ -159,12 +160,24 @@ others_of_one scene task i good alone at =
       force = λ j other. force_in_one first i j at other ∙ ap (meets Force i j) (sym group);
     }
 
--- no task of a good scene has a leaf in both of its ranges
-good_lines : (scene : Scene) (spans : List RangeSpan) → All (IsRangeSpan (length scene.leaves)) spans → All (λ (line : TaskLine). IsOtherRange (length scene.leaves) line.first line.second) (lines_of scene spans)
+-- the leaves that pass a test, or none of them
+some_leaves : (b : Bool) (p : ℕ → Bool) (n : ℕ) → All (λ leaf. leaf < n) (cond b (filter p (range_with_len 0 n)) [])
+some_leaves true p n = All-filter p (λ leaf. leaf < n) (range_with_len 0 n) (All-from_Contains (λ leaf. leaf < n) (range_with_len 0 n) (below_from_numbers n))
+some_leaves false p n = All-nil (λ leaf. leaf < n)
+
+-- the ranges of a task of a good scene are ranges of its leaves, and have none in common
+abbrev pub HasRanges : Scene → TaskLine → Type 0
+HasRanges scene line = IsRange (length scene.leaves) line.first × IsOtherRange (length scene.leaves) line.first line.second
+
+good_lines : (scene : Scene) (spans : List RangeSpan) → All (IsRangeSpan (length scene.leaves)) spans → All (HasRanges scene) (lines_of scene spans)
 good_lines scene spans are =
-    let good = λ (line : TaskLine). IsOtherRange (length scene.leaves) line.first line.second in
-    let of_leaves = λ (kind : Kind) (leaves : List ℕ). All-map good (leaf_line kind) leaves (λ k d inside. tt) in
-    let of_spans = λ (kind : Kind). All-map good (span_line kind) spans (λ k d inside. (are k d inside).second) in
+    let good = HasRanges scene in
+    let of_leaves = λ (kind : Kind) (leaves : List ℕ) (below : All (λ leaf. leaf < length scene.leaves) leaves).
+    All-map good (leaf_line kind) leaves (λ k d inside. (record { some = omega arith; within = omega (arith, below k d inside) }, tt))
+    in
+    let of_spans = λ (kind : Kind). All-map good (span_line kind) spans (λ k d inside. ((are k d inside).first, (are k d inside).second)) in
+    let due = some_leaves true (λ leaf. list_any (is_due_at scene) (members_of scene leaf)) (length scene.leaves) in
+    let drifting = some_leaves scene.drift (λ leaf. list_any (λ span. touches (span_line Density span) leaf) spans) (length scene.leaves) in
     let drifts = map (leaf_line Drift) (drifting_leaves scene spans) in
     let densities = map (span_line Density) spans in
     let ghosts = map (leaf_line Ghost) (due_leaves scene) in
@@ -173,10 +186,13 @@ good_lines scene spans are =
     All-append good (drifts ++ densities ++ ghosts ++ forces) kicks
     (All-append good (drifts ++ densities ++ ghosts) forces
     (All-append good (drifts ++ densities) ghosts
-    (All-append good drifts densities (of_leaves Drift (drifting_leaves scene spans)) (of_spans Density))
-    (of_leaves Ghost (due_leaves scene)))
+    (All-append good drifts densities (of_leaves Drift (drifting_leaves scene spans) drifting) (of_spans Density))
+    (of_leaves Ghost (due_leaves scene) due))
     (of_spans Force))
-    (of_leaves Kick (due_leaves scene))
+    (of_leaves Kick (due_leaves scene) due)
+
+pub good_line : (scene : Scene) (task : ℕ) → IsGoodScene scene → task < length scene.tasks → HasRanges scene (line_at scene task)
+good_line scene task good inside = subst (All (HasRanges scene)) (sym good.lines) (good_lines scene good.spans good.ranges) task (record { kind = Drift; first = (0, 0); second = None }) inside
 
 neither_some : (x : ℕ × ℕ) → None ≡ Some x → ⊥
 neither_some x e = cc
@@ -184,10 +200,7 @@ neither_some x e = cc
 ranges_apart : (scene : Scene) (task : ℕ) (second : ℕ × ℕ) → IsGoodScene scene → (line_at scene task).second ≡ Some second → ((line_at scene task).first.1 ≤ second.0) ⊎ (second.1 ≤ (line_at scene task).first.0)
 ranges_apart scene task second good two =
     elim (cases_lt task (length scene.tasks)) [
-      | inl inside ↦
-          let all = subst (λ (lines : List TaskLine). All (λ (line : TaskLine). IsOtherRange (length scene.leaves) line.first line.second) lines) (sym good.lines) (good_lines scene good.spans good.ranges) in
-          let this = all task (record { kind = Drift; first = (0, 0); second = None }) inside in
-          (subst (λ o. IsOtherRange (length scene.leaves) (line_at scene task).first o) two this).1
+      | inl inside ↦ (subst (λ o. IsOtherRange (length scene.leaves) (line_at scene task).first o) two (good_line scene task good inside).1).1
       | inr past ↦ let none : (line_at scene task).second ≡ None = ap (λ (line : TaskLine). line.second) (get_or_past scene.tasks task _ past) in absurd (neither_some second (sym none ∙ two))
     ]
 

@@ -1,4 +1,3 @@
 -- Definitions between private functions: no public clause cites them.
 pub mod Beginning
-pub mod FirstTasks
-pub mod OneLeaf
+pub mod TaskLists

@@ -7,16 +7,8 @@ ghost use Rattle.cell_block.specs.inner.Beginning.{first_force, first_pull, firs
 use crate::block::{Mark, Spot};
 use crate::scene::{Scene, TaskLine};
 use sph_bins::due;
-use sph_num::{Length, Particle, Pull, position};
+use sph_num::{Length, Particle, Pull};
 use std::alloc::{AllocError, Global};
-
-/// The particle of an index, before the step.
-fn start(scene: &Scene, i: u32) -> &Particle
-    requires { i < length scene.now.start }
-    ensures { result.now ≡ particle_at scene.now i }
-{
-    &scene.start.as_slice()[i as usize]
-}
 
 /// Whether the particle is due at the scene's tick.
 fn is_due(scene: &Scene, i: u32) -> bool
@@ -24,7 +16,7 @@ fn is_due(scene: &Scene, i: u32) -> bool
     requires within { i < length scene.now.start }
     ensures { result ≡ is_due_at scene.now i }
 {
-    due(scene.tick, start(scene, i).bin)
+    due(scene.tick, scene.particle(i).bin)
 }
 
 /// Where the particle stands, and how far it reaches.
@@ -33,11 +25,11 @@ fn spot(scene: &Scene, i: u32) -> Spot
     requires within { i < length scene.now.start }
     ensures { result ≡ first_spot scene.now i }
 {
-    let particle = start(scene, i);
+    let particle = scene.particle(i);
     let place = if scene.drift {
         particle.x0
     } else {
-        position(particle, scene.tick, scene.params.shift)
+        scene.place(i)
     };
     Spot {
         place,
@@ -51,7 +43,7 @@ fn pull(scene: &Scene, i: u32) -> Pull
     requires within { i < length scene.now.start }
     ensures { result ≡ first_pull scene.now i }
 {
-    let particle = start(scene, i);
+    let particle = scene.particle(i);
     Pull::new(Length::new(particle.h), particle.mass, particle.g)
 }
 
@@ -64,7 +56,7 @@ fn rho(scene: &Scene, i: u32) -> u64
     if is_due(scene, i) {
         0
     } else {
-        start(scene, i).rho
+        scene.particle(i).rho
     }
 }
 
@@ -77,7 +69,7 @@ fn force(scene: &Scene, i: u32) -> [i128; 3]
     if is_due(scene, i) {
         [0; 3]
     } else {
-        start(scene, i).f
+        scene.particle(i).f
     }
 }
 
@@ -161,26 +153,37 @@ pub(crate) fn particles(
 {
     let mut particles = Vec::with_capacity(alloc, members.len())?;
     for i in members {
-        particles.push(*start(scene, *i))?;
+        particles.push(*scene.particle(*i))?;
     }
     Ok(particles)
 }
 
-/// The tasks that touch a leaf, rising, none of them done.
-pub(crate) fn marks(alloc: Global, scene: &Scene, leaf: u32) -> Result<Vec<Mark>, AllocError>
-    requires { IsGoodScene scene.now }
-    ensures { IfOk result (λ v. v.items ≡ map not_done (tasks_at scene.now leaf)) }
+/// Marks for some tasks, none of them done.
+pub(crate) fn marks(alloc: Global, tasks: &[u32]) -> Result<Vec<Mark>, AllocError>
+    ensures { IfOk result (λ v. v.items ≡ map not_done tasks.now) }
 {
-    let mut marks = Vec::new(alloc);
-    for (task, line) in scene.tasks.as_slice().iter().enumerate() {
-        if touches(line, leaf) {
-            marks.push(Mark {
-                task: task as u32,
-                done: false,
-            })?;
-        }
+    let mut marks = Vec::with_capacity(alloc, tasks.len())?;
+    for task in tasks {
+        marks.push(Mark {
+            task: *task,
+            done: false,
+        })?;
     }
     Ok(marks)
+}
+
+/// The tasks that touch a leaf, rising.
+pub(crate) fn tasks_at(alloc: Global, scene: &Scene, leaf: u32) -> Result<Vec<u32>, AllocError>
+    requires { IsGoodScene scene.now }
+    ensures { IfOk result (λ v. v.items ≡ tasks_at scene.now leaf) }
+{
+    let mut tasks = Vec::new(alloc);
+    for (task, line) in scene.tasks.as_slice().iter().enumerate() {
+        if touches(line, leaf) {
+            tasks.push(task as u32)?;
+        }
+    }
+    Ok(tasks)
 }
 
 /// Whether a task touches a leaf.

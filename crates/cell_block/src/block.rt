@@ -1,6 +1,6 @@
 //! The particles of a leaf during a step.
-ghost use Rattle.std.specs.Prelude.{◌≡◌, ◌<◌, ◌↔◌, [], length, get_or, Contains, IfOk, MatchBool};
-ghost use Rattle.cell_block.specs.Blocks.{Agrees, done_of};
+ghost use Rattle.std.specs.Prelude.{◌≡◌, ◌<◌, [], length, IfOk};
+ghost use Rattle.cell_block.specs.Blocks.{Agrees, done_of, tasks_at};
 ghost use Rattle.cell_block.specs.Scene.{IsGoodScene, members_of};
 
 use crate::beginning;
@@ -43,7 +43,8 @@ pub struct Block {
     pub rhos: Vec<u64>,
     /// The forces: of a due member as far as they are summed.
     pub forces: Vec<[i128; 3]>,
-    /// What only a kick reads and writes; density, force and ghost stand in the lists above.
+    /// What only a kick reads and writes. The densities, ghosts and forces in here mean nothing: these stand in
+    /// the lists above.
     pub particles: Vec<Particle>,
 }
 
@@ -55,10 +56,26 @@ impl Block {
         requires leaf { leaf < length scene.now.leaves }
         ensures { IfOk result (λ block. Agrees scene.now leaf block × (done_of block ≡ [])) }
     {
+        let tasks = beginning::tasks_at(alloc, scene, leaf)?;
+        Block::with_tasks(alloc, scene, leaf, &tasks)
+    }
+
+    /// As `make`, with the tasks that touch the leaf at hand.
+    pub fn with_tasks(
+        alloc: Global,
+        scene: &Scene,
+        leaf: u32,
+        tasks: &[u32],
+    ) -> Result<Block, AllocError>
+        requires scene { IsGoodScene scene.now }
+        requires leaf { leaf < length scene.now.leaves }
+        requires tasks { tasks.now ≡ tasks_at scene.now leaf }
+        ensures { IfOk result (λ block. Agrees scene.now leaf block × (done_of block ≡ [])) }
+    {
         let members = members_of(alloc, scene, leaf)?;
         Ok(Block {
             leaf,
-            marks: beginning::marks(alloc, scene, leaf)?,
+            marks: beginning::marks(alloc, tasks)?,
             spots: beginning::spots(alloc, scene, &members)?,
             pulls: beginning::pulls(alloc, scene, &members)?,
             due: beginning::dues(alloc, scene, &members)?,

@@ -1,6 +1,7 @@
 //! A list of plain values, one behind the other.
-ghost use Rattle.std.specs.Prelude.{◌≡◌, length, slice_get, option_copied};
+ghost use Rattle.std.specs.Prelude.{◌≡◌, [], ◌∷◌, ◌++◌, length, slice_get, option_copied, OnOk};
 
+use std::alloc::AllocError;
 use std::marker::Model;
 
 /// A `Vec` that contracts see as the list of its elements.
@@ -50,5 +51,15 @@ impl<T> Flat<T> {
         ensures { option_copied result ≡ slice_get self.now i }
     {
         self.items.get(i)
+    }
+}
+
+impl<T: Drop> Flat<T> {
+    /// Adds an element, the last.
+    pub(crate) fn push(&mut self, item: T) -> Result<(), AllocError>
+        ensures { OnOk result (self.new ≡ self.old ++ item ∷ []) }
+    {
+        self.items.push(item)?;
+        Ok(())
     }
 }

@@ -7,12 +7,12 @@ mod flat;
 mod laws;
 mod reading;
 mod scene;
-#[cfg(test)]
-mod tests;
 mod threads;
+mod touching;
 
 pub use block::{Block, Mark, Spot};
 pub use flat::Flat;
 pub use laws::sums_are_whole;
 pub use scene::{LeafList, LeafMembers, LineList, Scene, TaskLine};
 pub use threads::{block_is_sent, scene_is_sync};
+pub use touching::tasks_by_leaf;

@@ -1,8 +1,9 @@
 //! What a block tells, and the mark of a task that is done.
-ghost use Rattle.std.specs.Prelude.{◌≡◌, ◌<◌, ◌&&◌, ◌==◌, Contains, MatchBool, length, map, slice_index, vec_len};
+ghost use Rattle.std.specs.Prelude.{◌≡◌, ◌<◌, ◌&&◌, ◌==◌, Contains, MatchBool, slice_index, vec_len};
 ghost use Rattle.std.specs.List.{list_any};
-ghost use Rattle.cell_block.specs.Blocks.{AreDoneWith, done_of};
-ghost use Rattle.cell_block.specs.Reading.{IsWhole, member_of, place_of_member, tasks_of, with_done};
+ghost use Rattle.cell_block.specs.Blocks.{done_of};
+ghost use Rattle.cell_block.specs.Reading.{IsWhole, member_of, place_of_member, tasks_of};
+ghost use Rattle.cell_block.specs.Tasks.{IsMarked};
 
 use crate::block::{Block, Mark};
 use sph_num::Particle;
@@ -57,9 +58,7 @@ impl Block {
     pub fn mark(&mut self, task: u32)
         requires kept { Contains (tasks_of self.old) task }
         requires not_done { Contains (done_of self.old) task → ⊥ }
-        ensures marks { self.new.marks.items ≡ map (with_done task) self.old.marks.items }
-        ensures unchanged { record self.new { marks = self.old.marks } ≡ self.old }
-        ensures done { AreDoneWith (done_of self.old) task (done_of self.new) }
+        ensures { IsMarked task self.old self.new }
     {
         for mark in self.marks.iter_mut() {
             if mark.task == task {

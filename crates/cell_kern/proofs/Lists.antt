@@ -19,11 +19,15 @@ length-members spots pulls due same_pulls same_due =
 pub length-list_of : (m : Members) → AreMembers m → length (list_of m) ≡ length m.spots.now
 length-list_of m are = length-members m.spots.now m.pulls.now m.due.now are.pulls are.due
 
+pub member_in : (spots : List Spot) (pulls : List Puller) (dues : List Bool) (k : ℕ) (spot : Spot) (pull : Puller) (due : Bool) → length pulls ≡ length spots → length dues ≡ length spots → k < length spots
+    → get_or (members spots pulls dues) k no_member ≡ member (get_or spots k spot) (get_or pulls k pull) (get_or dues k due)
+member_in spots pulls dues k spot pull due same_pulls same_due low =
+    let pairs = length-zip2 member spots pulls (omega arith) in
+    get_or-zip2 (λ (make : Bool → Member) d. make d) (zip2 member spots pulls) dues k (member spot pull) due no_member (omega arith) (omega arith)
+    ∙ ap (λ (make : Bool → Member). make (get_or dues k due)) (get_or-zip2 member spots pulls k spot pull (member spot pull) low (omega arith))
+
 pub member_at : (m : Members) (k : ℕ) (spot : Spot) (pull : Puller) (due : Bool) → AreMembers m → k < length m.spots.now → get_or (list_of m) k no_member ≡ member (get_or m.spots.now k spot) (get_or m.pulls.now k pull) (get_or m.due.now k due)
-member_at m k spot pull due are low =
-    let pairs = length-zip2 member m.spots.now m.pulls.now (omega (arith, are.pulls)) in
-    get_or-zip2 (λ (make : Bool → Member) d. make d) (zip2 member m.spots.now m.pulls.now) m.due.now k (member spot pull) due no_member (omega arith) (omega (arith, are.due))
-    ∙ ap (λ (make : Bool → Member). make (get_or m.due.now k due)) (get_or-zip2 member m.spots.now m.pulls.now k spot pull (member spot pull) low (omega (arith, are.pulls)))
+member_at m k spot pull due are low = member_in m.spots.now m.pulls.now m.due.now k spot pull due are.pulls are.due low
 
 pub sound_at : (m : Members) (k : ℕ) → AreMembers m → k < length m.spots.now → IsSound (get_or (list_of m) k no_member)
 sound_at m k are low = are.sound k no_member (omega (arith, length-list_of m are))

@@ -53,6 +53,18 @@ passed_kept given one to from upto before sums d low inside so_far none = record
   last = λ k e above. so_far.last k e (omega arith);
 }
 
+-- or all are
+pub passed_nothing : {X : Type 0} (given : Member → X → Member → X) (one : Member) (to : List Member) (from : ℕ) (sums : List X) (d : X)
+    → ((k : ℕ) → k < length sums → given (get_or to k no_member) (get_or sums k d) one ≡ get_or sums k d) → IsPassed given one to from (length sums) sums sums
+passed_nothing given one to from sums d none = record {
+  same_length = refl;
+  passed = λ k e from_low high.
+      let same = get_or_default sums k d e high in
+      sym same ∙ sym (none k high) ∙ ap (λ x. given (get_or to k no_member) x one) same;
+  first = λ k e below. refl;
+  last = λ k e above. refl;
+}
+
 -- what one member was given, from one more
 pub given_more : {X : Type 0} (given : X → Member → X) (start : X) (from : List Member) (first upto : ℕ) (sum new : X) → first ≤ upto → upto < length from → sum ≡ fold given start (between first upto from) → new ≡ given sum (get_or from upto no_member)
     → new ≡ fold given start (between first (upto + 1) from)
@@ -61,6 +73,11 @@ given_more given start from first upto sum new low inside so_far is =
 
 pub given_none : {X : Type 0} (given : X → Member → X) (start : X) (from : List Member) (first : ℕ) → start ≡ fold given start (between first first from)
 given_none given start from first = ap (fold given start) (sym (between_none from first))
+
+-- from none that gives anything
+pub fold_kept : {X : Type 0} (given : X → Member → X) (sum : X) (from : List Member) → All (λ m. given sum m ≡ sum) from → fold given sum from ≡ sum
+fold_kept given sum [] all = refl
+fold_kept given sum (m ∷ ms) all = ap (λ x. fold given x ms) (All-head (λ n. given sum n ≡ sum) m ms all) ∙ fold_kept given sum ms (All-tail (λ n. given sum n ≡ sum) m ms all)
 
 -- a sum grows by no more than a bound for each
 pub fold-le : {X : Type 0} (size : X → ℕ) (bound : ℕ) (P : Member → Type 0) (given : X → Member → X) → ((x : X) (from : Member) → P from → size (given x from) ≤ size x + bound) → (start : X) (from : List Member) → All P from → size (fold given start from) ≤ size start + length from * bound

@@ -8,10 +8,12 @@ use Rattle.lists.proofs.Elements.{All-flat_map}
 use Rattle.sph_num.specs.Ranges.{most_particles}
 use Rattle.cell_block.specs.declared.block.Block.{Block}
 use Rattle.cell_kern.specs.declared.blocks.Sums.{Sums}
+use Rattle.cell_kern.specs.declared.extent.Extent.{Extent}
 use Rattle.cell_kern.specs.declared.members.Member.{Member}
+use Rattle.cell_kern.specs.inner.Extents.{AreWithin}
 use Rattle.cell_kern.specs.inner.Gathered.{IsSound}
-use Rattle.cell_kern.specs.inner.Taking.{AreGivenTo, CanTake, CanTakeAll, IsGiven, rows_in}
-use Rattle.cell_kern.proofs.Taken.{same_rows, taken_can, taken_more, taken_none}
+use Rattle.cell_kern.specs.inner.Taking.{AreBoxes, AreGivenTo, CanTake, CanTakeAll, IsGiven, rows_in}
+use Rattle.cell_kern.proofs.Taken.{same_rows, same_spots, taken_can, taken_more, taken_none}
 
 -- the first blocks were given to by the whole, the others by a part of it
 pub record AreTaken (sums : Sums) (whole part : List Member) (upto : ℕ) (before after : List Block) : Type 0 where
@@ -107,6 +109,20 @@ same_rows_all sums whole part upto before after k d are inside =
       | inl early ↦ same_rows sums (get_or before k d) whole (get_or after k d) (are.done k d early inside)
       | inr late ↦ same_rows sums (get_or before k d) part (get_or after k d) (are.rest k d late inside)
     ]
+
+pub same_spots_all : (sums : Sums) (whole part : List Member) (upto : ℕ) (before after : List Block) (k : ℕ) (d : Block) → AreTaken sums whole part upto before after → k < length before → (get_or after k d).spots.items ≡ (get_or before k d).spots.items
+same_spots_all sums whole part upto before after k d are inside =
+    elim (cases_lt k upto) [
+      | inl early ↦ same_spots sums (get_or before k d) whole (get_or after k d) (are.done k d early inside)
+      | inr late ↦ same_spots sums (get_or before k d) part (get_or after k d) (are.rest k d late inside)
+    ]
+
+-- so they lie in the boxes in which they lay
+pub boxes_after : (sums : Sums) (whole part : List Member) (upto : ℕ) (before after : List Block) (boxes : List Extent) → AreTaken sums whole part upto before after → AreBoxes boxes before → AreBoxes boxes after
+boxes_after sums whole part upto before after boxes are lie =
+    λ k extent d kept low.
+    let inside : k < length before = omega (arith, are.same_length) in
+    subst (AreWithin (get_or boxes k extent)) (sym (same_spots_all sums whole part upto before after k d are inside)) (lie k extent d kept inside)
 
 pub rows_after : (sums : Sums) (whole part : List Member) (upto : ℕ) (before after : List Block) → AreTaken sums whole part upto before after → flat_map rows_in after ≡ flat_map rows_in before
 rows_after sums whole part upto before after are =

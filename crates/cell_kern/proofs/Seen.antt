@@ -1,15 +1,15 @@
 -- A block that agrees with a good scene: its members as others see them, and that it can take sums.
-use Rattle.std.proofs.Common.{◌≡◌, ℕ, ◌^◌, ◌<◌, ◌&&◌, not, Bool, true, false, if◌then◌else◌, List, length, map, All, Contains, subst, refl, ap, ◌∙◌, arith}
+use Rattle.std.proofs.Common.{◌≡◌, ℕ, ◌^◌, ◌<◌, ◌&&◌, not, Bool, List, length, map, All, Contains, subst, refl, ap, ◌∙◌, arith}
 use Rattle.std.specs.Simd.Lanes.{zip2}
 use Rattle.std.proofs.lemmas.List.{get_or_default}
 use Rattle.std.proofs.lemmas.Simd.{map-map, zip2-map}
 use Rattle.lists.proofs.Elements.{All-from_Contains}
-use Rattle.sph_num.specs.declared.kind.Kind.TheVariants.{Drift, Ghost, Kick}
+use Rattle.sph_num.specs.declared.kind.Kind.TheVariants.{Drift, Ghost}
 use Rattle.sph_num.specs.declared.particle.Particle.{Particle}
 use Rattle.sph_num.specs.Space.{IsPlace}
 use Rattle.sph_num.proofs.Drifts.{IsPlace-position_of}
 use Rattle.sph_num.proofs.Sums.{greatest_ghost-lt}
-use Rattle.sph_bins.specs.Kick.{ghost_at, kicked}
+use Rattle.sph_bins.specs.Kick.{ghost_at}
 use Rattle.sph_bins.proofs.Narrow.{ghost_at-le}
 use Rattle.cell_block.specs.declared.block.Block.{Block}
 use Rattle.cell_block.specs.declared.scene.Scene.{Scene}

@@ -37,6 +37,10 @@ pub same_rows : (sums : Sums) (before : Block) (from : List Member) (after : Blo
 same_rows Densities before from after is = ap rows_in is.unchanged
 same_rows Forces before from after is = ap rows_in is.unchanged
 
+pub same_spots : (sums : Sums) (before : Block) (from : List Member) (after : Block) → IsGiven sums before from after → after.spots.items ≡ before.spots.items
+same_spots Densities before from after is = ap (λ (x : Block). x.spots.items) is.unchanged
+same_spots Forces before from after is = ap (λ (x : Block). x.spots.items) is.unchanged
+
 pub taken_more : (sums : Sums) (a b c : Block) (xs ys : List Member) → IsGiven sums a xs b → IsGiven sums b ys c → IsGiven sums a (xs ++ ys) c
 taken_more Densities a b c xs ys first second = record {
   rhos = second.rhos ∙ ap (λ rows. gathered rho_given rows ys b.rhos.items) (same_rows Densities a xs b first) ∙ ap (gathered rho_given (rows_in a) ys) first.rhos ∙ gathered_more rho_given (rows_in a) xs ys a.rhos.items;
@@ -57,14 +61,14 @@ record HasStayed (before after : Block) : Type 0 where
 
 has_stayed : (sums : Sums) (level : ℕ) (before : Block) (from : List Member) (after : Block) → CanTake sums level before → IsGiven sums before from after → HasStayed before after
 has_stayed Densities level before from after can is = record {
-  spots = ap (λ (x : Block). x.spots.items) is.unchanged;
+  spots = same_spots Densities before from after is;
   pulls = ap (λ (x : Block). x.pulls.items) is.unchanged;
   due = ap (λ (x : Block). x.due.items) is.unchanged;
   rhos = ap length is.rhos ∙ length-zip2 (λ (m : Member) s. fold (rho_given m) s from) (rows_in before) before.rhos.items (length-rows_in Densities level before can ∙ sym can.rhos) ∙ length-rows_in Densities level before can ∙ sym can.rhos;
   forces = ap (λ (x : Block). length x.forces.items) is.unchanged;
 }
 has_stayed Forces level before from after can is = record {
-  spots = ap (λ (x : Block). x.spots.items) is.unchanged;
+  spots = same_spots Forces before from after is;
   pulls = ap (λ (x : Block). x.pulls.items) is.unchanged;
   due = ap (λ (x : Block). x.due.items) is.unchanged;
   rhos = ap (λ (x : Block). length x.rhos.items) is.unchanged;

@@ -2,8 +2,10 @@
 ghost use Rattle.std.specs.Prelude.{◌≡◌, ℕ, ◌+◌, ◌*◌, ◌<◌, ◌≤◌, ◌^◌, true, fold, length, if◌then◌else◌};
 ghost use Rattle.std.specs.List.{between};
 ghost use Rattle.sph_num.specs.Density.{density_within};
+ghost use Rattle.cell_kern.specs.inner.Extents.{AreWithin};
 ghost use Rattle.cell_kern.specs.inner.Gathered.{AreBelow, AreMembers, IsPassed, IsSound, gathered, list_of, rho_given};
 
+use crate::extent::Extent;
 use crate::members::{Member, Members};
 use sph_num::{Pull, Tables, dist2};
 
@@ -21,16 +23,18 @@ pub(crate) fn density_within(tables: &Tables, members: &Members, rhos: &mut [u64
     }
 }
 
-/// Adds what the members of two lists give to one another.
+/// Adds what the members of two lists give to one another. The box is one in which the second list lies.
 pub(crate) fn density_between(
     tables: &Tables,
     first: &Members,
     second: &Members,
+    extent: &Extent,
     first_rhos: &mut [u64],
     second_rhos: &mut [u64],
 )
     requires first { AreMembers first.now }
     requires second { AreMembers second.now }
+    requires extent { AreWithin extent.now second.now.spots.now }
     requires first_count { length first_rhos.old ≡ length first.now.spots.now }
     requires second_count { length second_rhos.old ≡ length second.now.spots.now }
     requires first_room { AreBelow (2 ^ 62 + 2 ^ 61) (list_of first.now) first_rhos.old }
@@ -40,7 +44,34 @@ pub(crate) fn density_between(
 {
     for i in 0..first.spots.len() {
         let one = first.at(i);
-        first_rhos[i] = density_row(tables, &one, second, 0, second_rhos, first_rhos[i]);
+        first_rhos[i] = density_near(tables, &one, second, extent, second_rhos, first_rhos[i]);
+    }
+}
+
+/// Adds what a member and those of a list give to one another, which is nothing where it is out of reach of the
+/// box in which the list lies: the list's sums are changed in place, the member's is returned.
+#[inline]
+fn density_near(
+    tables: &Tables,
+    one: &Member,
+    others: &Members,
+    extent: &Extent,
+    rhos: &mut [u64],
+    sum: u64,
+) -> u64
+    requires one { IsSound one.now }
+    requires others { AreMembers others.now }
+    requires extent { AreWithin extent.now others.now.spots.now }
+    requires count { length rhos.old ≡ length others.now.spots.now }
+    requires room { one.now.due ≡ true → sum < 2 ^ 63 + 2 ^ 60 }
+    requires rooms { AreBelow (2 ^ 63) (list_of others.now) rhos.old }
+    ensures own { result ≡ fold (rho_given one.now) sum (list_of others.now) }
+    ensures others { IsPassed rho_given one.now (list_of others.now) 0 (length rhos.old) rhos.old rhos.new }
+{
+    if Extent::point(&one.spot).is_apart(extent) {
+        sum
+    } else {
+        density_row(tables, one, others, 0, rhos, sum)
     }
 }
 

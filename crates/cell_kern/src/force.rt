@@ -4,8 +4,10 @@ ghost use Rattle.std.specs.Prelude.{◌≡◌, ℕ, ◌<◌, ◌≤◌, ◌*◌,
 ghost use Rattle.std.specs.List.{between};
 ghost use Rattle.sph_num.specs.Space.{IsPlace, box_side, dist2, minimal};
 ghost use Rattle.sph_num.specs.Totals.{component, vector_of};
+ghost use Rattle.cell_kern.specs.inner.Extents.{AreWithin};
 ghost use Rattle.cell_kern.specs.inner.Gathered.{AreMembers, AreNarrow, IsNarrow, IsPassed, IsSmall, IsSound, force_given, gathered, list_of, pull_along};
 
+use crate::extent::Extent;
 use crate::members::{Member, Members};
 use cell_block::Spot;
 use sph_num::{Pull, Tables, dist2, minimal};
@@ -25,16 +27,18 @@ pub(crate) fn force_within(tables: &Tables, members: &Members, forces: &mut [[i1
     }
 }
 
-/// Adds what the members of two lists give to one another.
+/// Adds what the members of two lists give to one another. The box is one in which the second list lies.
 pub(crate) fn force_between(
     tables: &Tables,
     first: &Members,
     second: &Members,
+    extent: &Extent,
     first_forces: &mut [[i128; 3]],
     second_forces: &mut [[i128; 3]],
 )
     requires first { AreMembers first.now }
     requires second { AreMembers second.now }
+    requires extent { AreWithin extent.now second.now.spots.now }
     requires first_count { length first_forces.old ≡ length first.now.spots.now }
     requires second_count { length second_forces.old ≡ length second.now.spots.now }
     requires first_room { AreNarrow (2 ^ 118) (list_of first.now) first_forces.old }
@@ -45,8 +49,33 @@ pub(crate) fn force_between(
     for i in 0..first.spots.len() {
         let one = first.at(i);
         let mut sum = first_forces[i];
-        force_row(tables, &one, second, 0, second_forces, &mut sum);
+        force_near(tables, &one, second, extent, second_forces, &mut sum);
         first_forces[i] = sum;
+    }
+}
+
+/// Adds what a member and those of a list give to one another, which is nothing where it is out of reach of the
+/// box in which the list lies.
+#[inline]
+fn force_near(
+    tables: &Tables,
+    one: &Member,
+    others: &Members,
+    extent: &Extent,
+    forces: &mut [[i128; 3]],
+    sum: &mut [i128; 3],
+)
+    requires one { IsSound one.now }
+    requires others { AreMembers others.now }
+    requires extent { AreWithin extent.now others.now.spots.now }
+    requires count { length forces.old ≡ length others.now.spots.now }
+    requires room { one.now.due ≡ true → IsNarrow (2 ^ 119) sum.old }
+    requires rooms { AreNarrow (2 ^ 119) (list_of others.now) forces.old }
+    ensures own { sum.new ≡ fold (force_given one.now) sum.old (list_of others.now) }
+    ensures others { IsPassed force_given one.now (list_of others.now) 0 (length forces.old) forces.old forces.new }
+{
+    if !Extent::point(&one.spot).is_apart(extent) {
+        force_row(tables, one, others, 0, forces, sum);
     }
 }
 

@@ -3,6 +3,7 @@
 
 mod blocks;
 mod density;
+mod extent;
 mod force;
 mod members;
 mod tasks;

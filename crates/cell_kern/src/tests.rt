@@ -5,10 +5,11 @@ ghost use Rattle.sph_num.specs.Space.{box_side};
 ghost use Rattle.cell_kern.specs.inner.Gathered.{AreMembers};
 
 use crate::density::density_between;
+use crate::extent::Extent;
 use crate::force::{force_between, force_within};
 use crate::members::Members;
 use cell_block::Spot;
-use sph_num::{Length, Pull, Tables};
+use sph_num::{BOX_SIDE, Length, Pull, Tables};
 use std::alloc::AllocError;
 
 /// A member's spot on the first axis.
@@ -26,6 +27,21 @@ fn pull() -> Pull
     ensures { result ≡ record { h = 1024; mass = 1024; g = 1286 } }
 {
     Pull::new(Length::new(1024), 1024, 1286)
+}
+
+/// No clause says that what is out of reach is passed over, only that nothing else is.
+#[test]
+fn tells_boxes_apart_either_way_round(rt: HostRuntime) {
+    let boxed = Extent::of(&[spot(512), spot(0)]);
+    for (x, apart) in [
+        (1535, false),
+        (1536, true),
+        (1_047_552, true),
+        (1_047_553, false),
+    ] {
+        assert!(rt; x < BOX_SIDE);
+        assert_eq!(rt; boxed.is_apart(&Extent::point(&spot(x))), apart, "at {x}");
+    }
 }
 
 #[test]
@@ -60,11 +76,12 @@ fn gives_to_the_due_one_across_the_face(rt: HostRuntime) -> Result<(), AllocErro
         pulls: &pulls,
         due: &[true],
     };
+    let extent = Extent::of(&low);
     let (mut kept, mut summed) = ([7], [43_748_163_584]);
-    density_between(&tables, &due, &waiting, &mut summed, &mut kept);
+    density_between(&tables, &due, &waiting, &extent, &mut summed, &mut kept);
     assert_eq!(rt; (kept, summed), ([7], [54_685_204_480]));
     let (mut kept, mut summed) = ([[7; 3]], [[0; 3]]);
-    force_between(&tables, &due, &waiting, &mut summed, &mut kept);
+    force_between(&tables, &due, &waiting, &extent, &mut summed, &mut kept);
     assert_eq!(rt; (kept, summed), ([[7; 3]], [[-659_298_496_512, 0, 0]]));
     Ok(())
 }

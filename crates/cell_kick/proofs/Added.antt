@@ -1,11 +1,11 @@
 -- From what a task on a leaf wrote into a list of its block to the task added.
-use Rattle.std.proofs.Common.{◌≡◌, ℕ, ◌<◌, ◌≤◌, Bool, true, false, if◌then◌else◌, List, [], length, map, get_or, All, Contains, refl, sym, ap, ◌∙◌, arith}
+use Rattle.std.proofs.Common.{◌≡◌, ℕ, ◌<◌, ◌≤◌, ◌||◌, Bool, true, false, inl, inr, if◌then◌else◌, List, [], length, map, get_or, All, Contains, refl, sym, ap, ◌∙◌, arith}
 use Rattle.std.specs.Prelude.{⊤}
+use Rattle.std.proofs.lemmas.Bool.{cases_Bool}
 use Rattle.std.proofs.lemmas.List.{get_or_default, get_or-map, length-map, map-id}
 use Rattle.lists.proofs.Elements.{All-from_Contains}
 use Rattle.sph_num.specs.declared.kind.Kind.{Kind}
 use Rattle.sph_num.specs.declared.kind.Kind.TheVariants.{Drift, Density, Ghost, Force, Kick}
-use Rattle.sph_num.specs.declared.particle.Particle.{Particle}
 use Rattle.sph_num.specs.Density.{density_of}
 use Rattle.sph_num.specs.Force.{ghost_value}
 use Rattle.sph_num.specs.Kinds.{same_kind}
@@ -15,15 +15,16 @@ use Rattle.sph_bins.proofs.Narrow.{density_at-ge}
 use Rattle.cell_block.specs.declared.block.Block.{Block}
 use Rattle.cell_block.specs.declared.block.Spot.{Spot}
 use Rattle.cell_block.specs.declared.scene.Scene.{Scene}
-use Rattle.cell_block.specs.Blocks.{Agrees, IsAdded, IsReady, done_of, rest_of}
+use Rattle.cell_block.specs.Blocks.{Agrees, AreDoneWith, IsAdded, IsReady, done_of, rest_of}
 use Rattle.cell_block.specs.Content.{is_done_on, met}
 use Rattle.cell_block.specs.Scene.{IsGoodScene, is_due_at, line_at, members_of, no_particle, particle_at, place_of, touches}
 use Rattle.cell_block.specs.Tasks.{IsMarked, IsTask}
-use Rattle.cell_block.proofs.Added.{added}
+use Rattle.cell_block.proofs.Added.{IsSame, added}
 use Rattle.cell_block.proofs.Done.{chosen, is_done_on_leaf, is_done_on_other_kind, met_other_kind}
 use Rattle.cell_block.proofs.LeafMembers.{member_inside}
+use Rattle.cell_block.proofs.Lines.{kind_of_same}
 use Rattle.cell_block.proofs.Order.{all_done, on_leaf, task_part, touches_first}
-use Rattle.cell_block.proofs.Parts.{parts_held, pull_with, rho_with, spot_with, where_drifted}
+use Rattle.cell_block.proofs.Parts.{HoldsParts, parts_held, pull_with, rho_with, spot_with, where_drifted}
 use Rattle.cell_block.proofs.WholeSums.{densities_are_whole}
 use Rattle.cell_kick.specs.inner.Written.{AreEach, ghosted, ghosts_at, spots_at, tick_spot}
 use Rattle.cell_kick.proofs.Loops.{written_of_members}
@@ -46,6 +47,48 @@ touches_its_leaf scene Kick task of good is = touches_first Kick _ (line_at scen
 touches_its_leaf scene Density task of good is = absurd of
 touches_its_leaf scene Force task of good is = absurd of
 
+-- what is done on its leaf once a task of a kind is done besides
+abbrev done_with : Scene → Kind → ℕ → List ℕ → Kind → Bool
+done_with scene own leaf done kind = same_kind own kind || is_done_on scene kind leaf done
+
+is_done_with : (scene : Scene) (own kind : Kind) (leaf task : ℕ) (done done' : List ℕ) → AreDoneWith done task done' → (line_at scene task).kind ≡ own → touches (line_at scene task) leaf ≡ true
+    → is_done_on scene kind leaf done' ≡ done_with scene own leaf done kind
+is_done_with scene own kind leaf task done done' more is touched =
+    let old = is_done_on scene kind leaf done in
+    elim (cases_Bool (same_kind own kind)) [
+      | inl same ↦ is_done_on_leaf scene kind leaf task done done' more (is ∙ kind_of_same own kind same) touched ∙ sym (ap (λ b. b || old) same)
+      | inr other ↦ is_done_on_other_kind scene kind leaf task done done' more (ap (λ k. same_kind k kind) is ∙ other) ∙ sym (ap (λ b. b || old) other)
+    ]
+
+not_of_pairs : (kind : Kind) → IsOfLeaves kind → (same_kind kind Density ≡ false) × (same_kind kind Force ≡ false)
+not_of_pairs Drift of = (refl, refl)
+not_of_pairs Ghost of = (refl, refl)
+not_of_pairs Kick of = (refl, refl)
+not_of_pairs Density of = absurd of
+not_of_pairs Force of = absurd of
+
+-- the lists of a block hold what is done on it, and what a task of this kind makes of its members
+abbrev pub HoldsMade : Scene → Kind → ℕ → List ℕ → Block → Type 0
+HoldsMade scene kind leaf done block =
+    HoldsParts scene leaf (done_with scene kind leaf done Drift) (done_with scene kind leaf done Ghost) (done_with scene kind leaf done Kick) (λ i. met scene Density done i) (λ i. met scene Force done i) block
+
+pub made_added : (scene : Scene) (kind : Kind) (task : ℕ) (before mid after : Block) → IsOfLeaves kind → IsGoodScene scene → IsTask scene kind task → IsReady scene task (leaf_of scene task) before → IsSame before mid
+    → HoldsMade scene kind (leaf_of scene task) (done_of before) mid → IsMarked task mid after → IsAdded scene task (leaf_of scene task) before after
+made_added scene kind task before mid after of good is ready same made marked =
+    let leaf = leaf_of scene task in
+    let done = done_of before in
+    let done' = done_of after in
+    let touched = touches_its_leaf scene kind task of good is in
+    let apart = not_of_pairs kind of in
+    added scene task leaf (done_with scene kind leaf done Drift) (done_with scene kind leaf done Ghost) (done_with scene kind leaf done Kick) (λ i. met scene Density done i) (λ i. met scene Force done i) before mid after ready.agrees same made marked
+    (λ more. record {
+      drift = is_done_with scene kind Drift leaf task done done' more is.is_kind touched;
+      ghosted = is_done_with scene kind Ghost leaf task done done' more is.is_kind touched;
+      kicked = is_done_with scene kind Kick leaf task done done' more is.is_kind touched;
+      densities = λ i. met_other_kind scene Density task i done done' more (ap (λ k. same_kind k Density) is.is_kind ∙ apart.0);
+      forces = λ i. met_other_kind scene Force task i done done' more (ap (λ k. same_kind k Force) is.is_kind ∙ apart.1);
+    })
+
 -- a member of the leaf at a place
 pub member_at : (scene : Scene) (leaf k : ℕ) → k < length (members_of scene leaf) → Contains (members_of scene leaf) (get_or (members_of scene leaf) k 0)
 member_at scene leaf k low = let ms = members_of scene leaf in (k, low, get_or_default ms k (get_or ms k 0) 0 low)
@@ -66,16 +109,12 @@ pub drift_added : (scene : Scene) (task : ℕ) (before mid after : Block) → Is
 drift_added scene task before mid after good is ready written unchanged marked =
     let leaf = leaf_of scene task in
     let done = done_of before in
-    let done' = done_of after in
     let ms = members_of scene leaf in
     let agrees = ready.agrees in
-    let touched = touches_its_leaf scene Drift task tt good is in
-    let made = is_done_on scene Ghost leaf done in
-    let kicks = is_done_on scene Kick leaf done in
     let parts = parts_held scene leaf done before agrees.rows in
     let none : Spot = record { place = []; h = 0 } in
     let long = ap length parts.spots ∙ length-map ms (spot_with scene (is_done_on scene Drift leaf done)) in
-    added scene task leaf true made kicks (λ i. met scene Density done i) (λ i. met scene Force done i) before mid after agrees
+    made_added scene Drift task before mid after tt good is ready
     (record { leaf = ap (λ (x : Block). x.leaf) unchanged; members = ap (λ (x : Block). x.members.items) unchanged; marks = ap (λ (x : Block). x.marks.items) unchanged; due = ap (λ (x : Block). x.due.items) unchanged })
     (record {
       spots = sym (map-id mid.spots.items)
@@ -86,13 +125,7 @@ drift_added scene task before mid after good is ready written unchanged marked =
       forces = ap (λ (x : Block). x.forces.items) unchanged ∙ parts.forces;
       particles = ap (λ (x : Block). map rest_of x.particles.items) unchanged ∙ parts.particles;
     })
-    marked (λ more. record {
-      drift = is_done_on_leaf scene Drift leaf task done done' more is.is_kind touched;
-      ghosted = is_done_on_other_kind scene Ghost leaf task done done' more (ap (λ k. same_kind k Ghost) is.is_kind);
-      kicked = is_done_on_other_kind scene Kick leaf task done done' more (ap (λ k. same_kind k Kick) is.is_kind);
-      densities = λ i. met_other_kind scene Density task i done done' more (ap (λ k. same_kind k Density) is.is_kind);
-      forces = λ i. met_other_kind scene Force task i done done' more (ap (λ k. same_kind k Force) is.is_kind);
-    })
+    marked
 
 -- a ghost: what stands in the lists for a member, and the densities of due members, which are whole
 made_pull : (due made : Bool) (sound h m rho rho' r v g : ℕ) → v ≡ ghost_value sound r → (due ≡ true → rho ≡ r)
@@ -139,13 +172,9 @@ pub ghost_added : (scene : Scene) (task : ℕ) (before mid after : Block) → Is
 ghost_added scene task before mid after good is ready written unchanged marked =
     let leaf = leaf_of scene task in
     let done = done_of before in
-    let done' = done_of after in
     let ms = members_of scene leaf in
     let agrees = ready.agrees in
-    let touched = touches_its_leaf scene Ghost task tt good is in
-    let drifted = is_done_on scene Drift leaf done in
     let made = is_done_on scene Ghost leaf done in
-    let kicks = is_done_on scene Kick leaf done in
     let parts = parts_held scene leaf done before agrees.rows in
     let long = ap length parts.pulls ∙ length-map ms (pull_with scene made) in
     let sound = scene.params.sound in
@@ -159,7 +188,7 @@ ghost_added scene task before mid after good is ready written unchanged marked =
     ∙ ap (ghosted sound (is_due_at scene i) (rho_with scene others i)) (ap (λ (xs : List Puller). get_or xs k (puller 0 0 0)) parts.pulls ∙ get_or-map (pull_with scene made) ms k 0 (puller 0 0 0) low)
     ∙ made_pull (is_due_at scene i) made sound p.h p.mass (density_of (place_of scene) others p) p.rho (density_at scene.params scene.tick scene.start p) (ghost_value sound (density_at scene.params scene.tick scene.start p)) p.g refl
     (λ due. whole_density scene task i before good is ready (member_at scene leaf k low) due) in
-    added scene task leaf drifted true kicks (λ i. met scene Density done i) (λ i. met scene Force done i) before mid after agrees
+    made_added scene Ghost task before mid after tt good is ready
     (record { leaf = ap (λ (x : Block). x.leaf) unchanged; members = ap (λ (x : Block). x.members.items) unchanged; marks = ap (λ (x : Block). x.marks.items) unchanged; due = ap (λ (x : Block). x.due.items) unchanged })
     (record {
       spots = ap (λ (x : Block). x.spots.items) unchanged ∙ parts.spots;
@@ -168,10 +197,4 @@ ghost_added scene task before mid after good is ready written unchanged marked =
       forces = ap (λ (x : Block). x.forces.items) unchanged ∙ parts.forces;
       particles = ap (λ (x : Block). map rest_of x.particles.items) unchanged ∙ parts.particles;
     })
-    marked (λ more. record {
-      drift = is_done_on_other_kind scene Drift leaf task done done' more (ap (λ k. same_kind k Drift) is.is_kind);
-      ghosted = is_done_on_leaf scene Ghost leaf task done done' more is.is_kind touched;
-      kicked = is_done_on_other_kind scene Kick leaf task done done' more (ap (λ k. same_kind k Kick) is.is_kind);
-      densities = λ i. met_other_kind scene Density task i done done' more (ap (λ k. same_kind k Density) is.is_kind);
-      forces = λ i. met_other_kind scene Force task i done done' more (ap (λ k. same_kind k Force) is.is_kind);
-    })
+    marked

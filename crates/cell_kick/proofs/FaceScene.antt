@@ -1,6 +1,6 @@
 -- The scene across the face is good.
-use Rattle.std.proofs.Common.{◌≡◌, ◌≢◌, ℕ, zero, suc, ◌+◌, ◌^◌, ◌<◌, true, false, List, [], ◌∷◌, length, get_or, All, Contains, inl, inr, subst, refl, sym, ap, ◌∙◌, arith}
-use Rattle.std.specs.Prelude.{◌⊎◌, slice_get, Option, Some, None}
+use Rattle.std.proofs.Common.{◌≡◌, ◌≢◌, ℕ, zero, suc, ◌+◌, ◌<◌, true, false, List, [], ◌∷◌, length, get_or, All, Contains, inl, inr, subst, refl, sym, ap, ◌∙◌, arith}
+use Rattle.std.specs.Prelude.{◌⊎◌, slice_get, Some, None}
 use Rattle.std.specs.List.Sorted.{IsStrictlyIncreasing}
 use Rattle.std.proofs.lemmas.Bool.{both_ways}
 use Rattle.std.proofs.lemmas.List.Elements.{All-cons, All-nil}
@@ -9,7 +9,6 @@ use Rattle.lists.proofs.Ranges.{numbers_rise}
 use Rattle.lists.proofs.Rising.{IsStrictlyIncreasing-from_Rises, Rises-range}
 use Rattle.sph_num.specs.declared.kind.Kind.{Kind}
 use Rattle.sph_num.specs.declared.kind.Kind.TheVariants.{Density, Ghost, Force, Kick}
-use Rattle.sph_num.specs.declared.particle.Particle.{Particle}
 use Rattle.sph_num.specs.Cover.{JustOne, MeetIn}
 use Rattle.sph_bins.specs.InBounds.{InBounds, IsAt, IsWithin}
 use Rattle.cell_block.specs.declared.block.Block.{Block}
@@ -18,19 +17,19 @@ use Rattle.cell_block.specs.declared.scene.TaskLine.{TaskLine}
 use Rattle.cell_block.specs.Blocks.{AreAdded, AreReady}
 use Rattle.cell_block.specs.Scene.{AreLeaves, IsGoodScene, IsRangeSpan, LineMeets, is_due_at, leaf_line, line_at, span_line, touches}
 use Rattle.cell_block.specs.Tasks.{IsTask}
-use Rattle.cell_block.specs.inner.FirstTasks.{HasFirst}
-use Rattle.cell_block.proofs.InOrder.{range_added, range_ready, skip_first}
-use Rattle.cell_block.proofs.OneLeaf.{nothing, other_kind}
-use Rattle.cell_block.proofs.TwoBins.{at_x, on_x}
+use Rattle.cell_kick.specs.inner.FirstTasks.{HasFirst}
+use Rattle.cell_kick.proofs.InOrder.{range_added, range_ready, skip_first}
+use Rattle.cell_kick.proofs.OneLeaf.{nothing, other_kind}
+use Rattle.cell_kick.proofs.TwoBins.{All-two, at_x, on_x, two_in_bounds}
 use Rattle.cell_kern.specs.Tasks.{second_of}
 use Rattle.cell_kick.specs.inner.Face.{across_face, both_span, bounds, due_one, own_span, params, six_lines, waiting_one}
 
 -- its particles are in bounds
 due_within : IsWithin params bounds due_one
-due_within = record { mass_low = omega arith; mass_high = omega arith; h_low = omega arith; h_high = omega arith; place = at_x 1048320 (omega arith); ghost_term = omega arith; bin = omega arith }
+due_within = let place = at_x 1048320 (omega arith) in grind (arith, place)
 
 waiting_within : IsWithin params bounds waiting_one
-waiting_within = record { mass_low = omega arith; mass_high = omega arith; h_low = omega arith; h_high = omega arith; place = at_x 256 (omega arith); ghost_term = omega arith; bin = omega arith }
+waiting_within = let place = at_x 256 (omega arith) in grind (arith, place)
 
 due_at : IsAt params bounds 1 due_one
 due_at = record { bin = omega arith; began = refl; since = omega arith; until = omega arith; room = on_x 0 _ (omega arith) }
@@ -39,36 +38,7 @@ waiting_at : IsAt params bounds 1 waiting_one
 waiting_at = record { bin = omega arith; began = refl; since = omega arith; until = omega arith; room = on_x 0 _ (omega arith) }
 
 are_in_bounds : InBounds params bounds 1 (due_one ∷ waiting_one ∷ [])
-are_in_bounds = record {
-  params_in_range = record {
-    ticks = omega arith;
-    every_low = omega arith;
-    every_high = omega arith;
-    bin_min = omega arith;
-    bin_max = omega arith;
-    sound_low = omega arith;
-    sound_high = omega arith;
-    shift = omega arith;
-    accuracy = omega arith;
-    leaf_low = omega arith;
-    leaf_high = omega arith;
-    pairs_low = omega arith;
-    pairs_high = omega arith;
-    slack = omega arith;
-  };
-  bins = omega arith;
-  bounds_in_range = record {
-    count_low = omega arith;
-    count_high = omega arith;
-    least_mass = record { low = omega arith; high = omega arith };
-    greatest_mass = record { low = omega arith; high = omega arith };
-    least_h = record { low = omega arith; high = omega arith };
-    greatest_h = record { low = omega arith; high = omega arith };
-  };
-  count = refl;
-  within = All-cons (IsWithin params bounds) due_one (waiting_one ∷ []) due_within (All-cons (IsWithin params bounds) waiting_one [] waiting_within (All-nil (IsWithin params bounds)));
-  at = All-cons (IsAt params bounds 1) due_one (waiting_one ∷ []) due_at (All-cons (IsAt params bounds 1) waiting_one [] waiting_at (All-nil (IsAt params bounds 1)));
-}
+are_in_bounds = two_in_bounds params bounds 1 due_one waiting_one (grind arith) (omega arith) (grind arith) refl due_within waiting_within due_at waiting_at
 
 -- each index stands in its own leaf
 some_same : {X : Type 0} (x y : X) → Some x ≡ Some y → x ≡ y
@@ -100,8 +70,8 @@ are_leaves =
     let below = λ (i : ℕ). i < 2 in
     record {
       one_leaf = one_leaf;
-      members = All-cons (All below) (0 ∷ []) ((1 ∷ []) ∷ []) (All-cons below 0 [] (omega arith) (All-nil below)) (All-cons (All below) (1 ∷ []) [] (All-cons below 1 [] (omega arith) (All-nil below)) (All-nil (All below)));
-      rising = All-cons IsStrictlyIncreasing (0 ∷ []) ((1 ∷ []) ∷ []) (numbers_rise 1) (All-cons IsStrictlyIncreasing (1 ∷ []) [] (IsStrictlyIncreasing-from_Rises (1 ∷ []) (Rises-range 1 1)) (All-nil IsStrictlyIncreasing));
+      members = All-two (All below) (0 ∷ []) (1 ∷ []) (All-cons below 0 [] (omega arith) (All-nil below)) (All-cons below 1 [] (omega arith) (All-nil below));
+      rising = All-two IsStrictlyIncreasing (0 ∷ []) (1 ∷ []) (numbers_rise 1) (IsStrictlyIncreasing-from_Rises (1 ∷ []) (Rises-range 1 1));
     }
 
 -- which of the tasks are densities, and which forces
@@ -186,8 +156,8 @@ across_face_is_good = record {
   in_bounds = are_in_bounds;
   leaves = are_leaves;
   spans = own_span ∷ both_span ∷ [];
-  ranges = All-cons (IsRangeSpan 2) own_span (both_span ∷ []) (record { first = record { some = omega arith; within = omega arith }; second = tt })
-      (All-cons (IsRangeSpan 2) both_span [] (record { first = record { some = omega arith; within = omega arith }; second = (record { some = omega arith; within = omega arith }, inl (omega arith)) }) (All-nil (IsRangeSpan 2)));
+  ranges = All-two (IsRangeSpan 2) own_span both_span (record { first = record { some = omega arith; within = omega arith }; second = tt })
+      (record { first = record { some = omega arith; within = omega arith }; second = (record { some = omega arith; within = omega arith }, inl (omega arith)) });
   lines = refl;
   few_lines = omega arith;
   covers = record {

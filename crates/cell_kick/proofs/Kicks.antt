@@ -1,18 +1,15 @@
 -- From what a kick wrote into the particles of its block to the task added.
-use Rattle.std.proofs.Common.{◌≡◌, ℕ, zero, suc, ◌+◌, ◌-◌, ◌*◌, ◌^◌, ◌<◌, ◌≤◌, ◌&&◌, not, Bool, true, false, if◌then◌else◌, List, [], length, get_or, refl, sym, ap, ◌∙◌, arith}
+use Rattle.std.proofs.Common.{◌≡◌, ℕ, zero, suc, ◌+◌, ◌-◌, ◌*◌, ◌^◌, ◌<◌, ◌≤◌, Bool, true, false, if◌then◌else◌, List, [], length, get_or, refl, sym, ap, ◌∙◌, arith}
 use Rattle.std.specs.Prelude.{ℤ, unsigned_abs}
-use Rattle.std.proofs.lemmas.Bool.{both_ways}
 use Rattle.std.proofs.lemmas.List.{get_or-map, length-map}
 use Rattle.std.proofs.lemmas.Nat.{mul-le, pow_pos}
-use Rattle.sph_num.specs.declared.kind.Kind.TheVariants.{Drift, Density, Ghost, Force, Kick}
+use Rattle.sph_num.specs.declared.kind.Kind.TheVariants.{Drift, Force, Kick}
 use Rattle.sph_num.specs.declared.particle.Bounds.{Bounds}
 use Rattle.sph_num.specs.declared.particle.Params.{Params}
 use Rattle.sph_num.specs.declared.particle.Particle.{Particle}
 use Rattle.sph_num.specs.Bound.{greatest_force}
 use Rattle.sph_num.specs.Force.{force_of}
-use Rattle.sph_num.specs.Kinds.{same_kind}
 use Rattle.sph_num.specs.Motion.{IsMomentum, position_of}
-use Rattle.sph_num.specs.Pull.{puller}
 use Rattle.sph_num.specs.Totals.{component}
 use Rattle.sph_bins.specs.InBounds.{IsAt}
 use Rattle.sph_bins.specs.Kick.{force_at, ghost_at, kicked, kicked_with}
@@ -25,25 +22,20 @@ use Rattle.cell_block.specs.Blocks.{Agrees, IsAdded, IsReady, done_of, rest_of}
 use Rattle.cell_block.specs.Content.{is_done_on, met}
 use Rattle.cell_block.specs.Scene.{IsGoodScene, is_due_at, members_of, no_particle, particle_at, place_of}
 use Rattle.cell_block.specs.Tasks.{IsMarked, IsTask}
-use Rattle.cell_block.proofs.Added.{added}
-use Rattle.cell_block.proofs.Done.{chosen, is_done_on_leaf, is_done_on_other_kind, met_other_kind}
+use Rattle.cell_block.proofs.Done.{chosen}
 use Rattle.cell_block.proofs.LeafMembers.{member_inside}
 use Rattle.cell_block.proofs.Order.{all_done}
 use Rattle.cell_block.proofs.Parts.{force_with, parts_held, rest_with, spot_with, where_drifted}
 use Rattle.cell_block.proofs.Ranges.{sound_at}
 use Rattle.cell_block.proofs.WholeSums.{forces_are_whole}
 use Rattle.cell_kick.specs.declared.members.Summed.{Summed}
-use Rattle.cell_kick.specs.inner.Written.{AreEach, CanKick, force_at_index, kick_at, kicked_by, with_rho}
-use Rattle.cell_kick.proofs.Added.{due_at, in_list, leaf_of, member_at, touches_its_leaf}
+use Rattle.cell_kick.specs.inner.Written.{AreEach, CanKick, force_at_index, kick_at, kicked_by}
+use Rattle.cell_kick.proofs.Added.{due_at, in_list, leaf_of, made_added, member_at, touches_its_leaf}
 use Rattle.cell_kick.proofs.Loops.{written_of_members}
 use Rattle.cell_kick.proofs.Only.{not_kicked}
 use Rattle.cell_kick.proofs.Order.{drift_done}
 
 -- the place at a tick reads nothing of the sums
-pub place_with_rho : (scene : Scene) (p : Particle) (rho : ℕ) → place_of scene (with_rho p rho) ≡ place_of scene p
-unfolding position_of
-place_with_rho scene p rho = refl
-
 place_of_rest : (scene : Scene) (p : Particle) → place_of scene (rest_of p) ≡ place_of scene p
 unfolding position_of
 place_of_rest scene p = refl
@@ -69,11 +61,11 @@ force_small scene i good inside =
     λ axis. below (unsigned_abs (component (force_at scene.params scene.tick scene.start p) axis)) (greatest_force scene.params.sound scene.bounds) (2 ^ 96) (force_at-le scene.params scene.bounds scene.tick scene.start p are good.tick (in_list scene i inside) axis) weak
 
 -- the kick reads of a particle what stands in no other list
-kicked_rest : (scene : Scene) (p q : Particle) (rho g : ℕ) (f : List ℤ) → rest_of p ≡ rest_of q → f ≡ force_at scene.params scene.tick scene.start q
-    → rest_of (kicked_with scene.params scene.tick (with_rho p rho) rho g f) ≡ rest_of (kicked scene.params scene.tick scene.start q)
+kicked_rest : (scene : Scene) (p q : Particle) (f : List ℤ) → rest_of p ≡ rest_of q → f ≡ force_at scene.params scene.tick scene.start q
+    → rest_of (kicked_with scene.params scene.tick p p.rho p.g f) ≡ rest_of (kicked scene.params scene.tick scene.start q)
 unfolding kicked position_of
-kicked_rest scene p q rho g f rest whole =
-    ap (λ (r : Particle). rest_of (kicked_with scene.params scene.tick r rho g f)) rest ∙ ap (λ (x : List ℤ). rest_of (kicked_with scene.params scene.tick q rho g x)) whole
+kicked_rest scene p q f rest whole =
+    ap (λ (r : Particle). rest_of (kicked_with scene.params scene.tick r r.rho r.g f)) rest ∙ ap (λ (x : List ℤ). rest_of (kicked_with scene.params scene.tick q q.rho q.g x)) whole
 
 -- the rest of a member, where the kick is written or not
 rest_after : (due : Bool) (x p q k : Particle) → (due ≡ true → rest_of x ≡ rest_of k) → rest_of p ≡ rest_of q → rest_of (if due then x else p) ≡ rest_of (if due then (if true then k else q) else q)
@@ -168,12 +160,8 @@ pub kick_added : (scene : Scene) (task : ℕ) (before mid after : Block) (summed
 kick_added scene task before mid after summed good is ready are written unchanged marked =
     let leaf = leaf_of scene task in
     let done = done_of before in
-    let done' = done_of after in
     let ms = members_of scene leaf in
     let agrees = ready.agrees in
-    let touched = touches_its_leaf scene Kick task tt good is in
-    let drifted = is_done_on scene Drift leaf done in
-    let made = is_done_on scene Ghost leaf done in
     let kicks = is_done_on scene Kick leaf done in
     let parts = parts_held scene leaf done before agrees.rows in
     let long = sym (length-map before.particles.items rest_of) ∙ ap length parts.particles ∙ length-map ms (rest_with scene kicks) in
@@ -186,9 +174,9 @@ kick_added scene task before mid after summed good is ready are written unchange
     let x = kicked_by scene summed k p in
     ap (λ b. rest_of (if b then x else p)) (ap (λ (bs : List Bool). get_or bs k false) are.due ∙ due_at scene leaf before k agrees low)
     ∙ rest_after (is_due_at scene i) x p q (kicked scene.params scene.tick scene.start q)
-    (λ due. kicked_rest scene p q (get_or summed.rhos.now k 0) (get_or summed.pulls.now k (puller 0 0 0)).g (force_at_index summed k) rest (ap (λ (fs : List (List ℤ)). get_or fs k []) are.forces ∙ force_here scene task before k good is ready low due))
+    (λ due. kicked_rest scene p q (force_at_index summed k) rest (ap (λ (fs : List (List ℤ)). get_or fs k []) are.forces ∙ force_here scene task before k good is ready low due))
     rest in
-    added scene task leaf drifted made true (λ i. met scene Density done i) (λ i. met scene Force done i) before mid after agrees
+    made_added scene Kick task before mid after tt good is ready
     (record { leaf = ap (λ (x : Block). x.leaf) unchanged; members = ap (λ (x : Block). x.members.items) unchanged; marks = ap (λ (x : Block). x.marks.items) unchanged; due = ap (λ (x : Block). x.due.items) unchanged })
     (record {
       spots = ap (λ (x : Block). x.spots.items) unchanged ∙ parts.spots;
@@ -197,10 +185,4 @@ kick_added scene task before mid after summed good is ready are written unchange
       forces = ap (λ (x : Block). x.forces.items) unchanged ∙ parts.forces;
       particles = written_of_members rest_of (kick_at scene summed) ms (rest_with scene true) before.particles.items mid.particles.items no_particle long written each;
     })
-    marked (λ more. record {
-      drift = is_done_on_other_kind scene Drift leaf task done done' more (ap (λ k. same_kind k Drift) is.is_kind);
-      ghosted = is_done_on_other_kind scene Ghost leaf task done done' more (ap (λ k. same_kind k Ghost) is.is_kind);
-      kicked = is_done_on_leaf scene Kick leaf task done done' more is.is_kind touched;
-      densities = λ i. met_other_kind scene Density task i done done' more (ap (λ k. same_kind k Density) is.is_kind);
-      forces = λ i. met_other_kind scene Force task i done done' more (ap (λ k. same_kind k Force) is.is_kind);
-    })
+    marked

@@ -5,3 +5,7 @@ pub mod Added
 mod Kicks
 mod FaceScene
 mod Turns
+mod InOrder
+mod OneLeaf
+mod TwoBins
+mod WorkedPair

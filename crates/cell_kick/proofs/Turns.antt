@@ -5,7 +5,7 @@ use Rattle.sph_num.specs.declared.kind.Kind.TheVariants.{Drift}
 use Rattle.cell_block.specs.declared.scene.Scene.{Scene}
 use Rattle.cell_block.specs.declared.scene.TaskLine.{TaskLine}
 use Rattle.cell_block.specs.Scene.{leaf_line, line_at}
-use Rattle.cell_block.specs.inner.OneLeaf.{one_leaf_lines}
+use Rattle.cell_kick.specs.inner.OneLeaf.{one_leaf_lines}
 
 abbrev on_leaf_at : List TaskLine → ℕ → Type 0
 on_leaf_at lines k = let line = get_or lines k (record { kind = Drift; first = (0, 0); second = None }) in line ≡ leaf_line line.kind 0

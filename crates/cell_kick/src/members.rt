@@ -2,20 +2,18 @@
 ghost use Rattle.std.specs.Prelude.{◌≡◌, ℕ, ◌<◌, ◌≤◌, true, false, All, length, get_or};
 ghost use Rattle.sph_num.specs.Force.{ghost_value};
 ghost use Rattle.sph_num.specs.Pull.{puller};
-ghost use Rattle.cell_block.specs.Scene.{IsGoodScene, no_particle, particle_at};
+ghost use Rattle.cell_block.specs.Scene.{IsGoodScene, no_particle};
 ghost use Rattle.cell_kick.specs.inner.Written.{AreEach, AreSummed, CanKick, kick_at, kicked_by, ghosts_at, spots_at, tick_spot};
 
 use cell_block::{Scene, Spot};
 use sph_bins::kick;
-use sph_num::{Particle, Pull, ghost_of, position};
+use sph_num::{Particle, Pull, ghost_of};
 
-/// What a kick reads of the members: five lists with an element for each.
+/// What a kick reads of the members: three lists with an element for each.
 #[derive(Clone, Copy, Debug)]
 pub(crate) struct Summed<'a> {
     pub spots: &'a [Spot],
-    pub pulls: &'a [Pull],
     pub due: &'a [bool],
-    pub rhos: &'a [u64],
     pub forces: &'a [[i128; 3]],
 }
 
@@ -37,19 +35,10 @@ fn tick_spot(scene: &Scene, i: u32) -> Spot
     requires within { i < length scene.now.start }
     ensures { result ≡ tick_spot scene.now i }
 {
-    let particle = start(scene, i);
     Spot {
-        place: position(particle, scene.tick, scene.params.shift),
-        h: particle.h,
+        place: scene.place(i),
+        h: scene.particle(i).h,
     }
-}
-
-/// The particle of an index, before the step.
-fn start(scene: &Scene, i: u32) -> &Particle
-    requires { i < length scene.now.start }
-    ensures { result.now ≡ particle_at scene.now i }
-{
-    &scene.start.as_slice()[i as usize]
 }
 
 /// Makes the ghosts of the due ones of some members.
@@ -92,7 +81,7 @@ pub(crate) fn kick_members(scene: &Scene, summed: &Summed, particles: &mut [Part
     }
 }
 
-/// A member after its kick.
+/// A member after its kick, which leaves its ghost and its density as they are.
 fn kicked(scene: &Scene, summed: &Summed, k: usize, particle: &Particle) -> Particle
     requires good { IsGoodScene scene.now }
     requires one_each { AreSummed summed.now (length summed.now.spots.now) }
@@ -100,19 +89,16 @@ fn kicked(scene: &Scene, summed: &Summed, k: usize, particle: &Particle) -> Part
     requires ready { CanKick scene.now summed.now k particle.now }
     ensures { result ≡ kicked_by scene.now summed.now k particle.now }
 {
-    let mut particle = Particle {
-        rho: summed.rhos[k],
-        ..*particle
-    };
+    let mut kicked = *particle;
     let place = summed.spots[k].place;
-    let g = summed.pulls[k].g();
+    let force = summed.forces[k];
     kick(
         &scene.params,
         scene.tick,
         place,
-        summed.forces[k],
-        g,
-        &mut particle,
+        force,
+        particle.g,
+        &mut kicked,
     );
-    particle
+    kicked
 }

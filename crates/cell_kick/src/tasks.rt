@@ -45,9 +45,7 @@ pub fn kick(scene: &Scene, task: u32, block: &mut Block)
 {
     let summed = Summed {
         spots: block.spots.as_slice(),
-        pulls: block.pulls.as_slice(),
         due: block.due.as_slice(),
-        rhos: block.rhos.as_slice(),
         forces: block.forces.as_slice(),
     };
     kick_members(scene, &summed, block.particles.as_mut_slice());

@@ -2,9 +2,11 @@
 ghost use Rattle.std.specs.Prelude.{◌≡◌, ◌+◌, ◌<◌, [], ◌∷◌, length, IfOk};
 ghost use Rattle.cell_block.specs.Reading.{IsWhole};
 ghost use Rattle.cell_block.specs.Scene.{IsGoodScene, leaf_line, line_at};
-ghost use Rattle.cell_block.specs.inner.FirstTasks.{HasFirst};
-ghost use Rattle.cell_block.specs.inner.OneLeaf.{one_leaf_lines};
+ghost use Rattle.cell_kick.specs.inner.FirstTasks.{HasFirst};
+ghost use Rattle.cell_kick.specs.inner.OneLeaf.{one_leaf_lines};
 ghost use Rattle.cell_kick.specs.inner.Face.{across_face, six_lines};
+
+mod beginning;
 
 use crate::{drift, ghost_, kick};
 use cell_block::{Block, Flat, Scene, TaskLine};
@@ -32,7 +34,7 @@ const BOUNDS: Bounds = Bounds {
     h: (1024, 1024),
 };
 
-/// What the kick at tick 0 left of a light particle.
+/// What the kick at tick 0 left of a light particle, which is due at each tick.
 const LIGHT: Particle = Particle {
     mass: 1024,
     h: 1024,
@@ -46,7 +48,7 @@ const LIGHT: Particle = Particle {
     bin: 0,
 };
 
-/// And of a heavy one.
+/// And of a heavy one, which is due at each second tick.
 const HEAVY: Particle = Particle {
     mass: 4096,
     h: 1024,
@@ -153,6 +155,7 @@ fn worked_pair(alloc: Global, drift: bool) -> Result<Scene, AllocError>
     ensures good { IfOk result IsGoodScene }
     ensures leaves { IfOk result (λ scene. length scene.leaves ≡ 1) }
     ensures tasks { IfOk result (λ scene. scene.tasks ≡ one_leaf_lines scene.drift) }
+    ensures drift { IfOk result (λ scene. scene.drift ≡ drift) }
 {
     let far = Particle {
         x0: [1512, 0, 0],
@@ -161,13 +164,14 @@ fn worked_pair(alloc: Global, drift: bool) -> Result<Scene, AllocError>
     scene_of(alloc, 0, PAIR_PARAMS, PAIR_BOUNDS, [RESTING, far], drift)
 }
 
-/// A light and a heavy particle at tick 1, at which the first alone is due, with a drift.
-fn two_bins(alloc: Global) -> Result<Scene, AllocError>
+/// A light and a heavy particle at tick 1, at which the first alone is due.
+fn two_bins(alloc: Global, drift: bool) -> Result<Scene, AllocError>
     ensures good { IfOk result IsGoodScene }
     ensures leaves { IfOk result (λ scene. length scene.leaves ≡ 1) }
     ensures tasks { IfOk result (λ scene. scene.tasks ≡ one_leaf_lines scene.drift) }
+    ensures drift { IfOk result (λ scene. scene.drift ≡ drift) }
 {
-    scene_of(alloc, 1, PARAMS, BOUNDS, [LIGHT, HEAVY], true)
+    scene_of(alloc, 1, PARAMS, BOUNDS, [LIGHT, HEAVY], drift)
 }
 
 /// Does a task on the first leaf alone.
@@ -241,7 +245,7 @@ fn drifts_nowhere_at_tick_0(rt: HostRuntime) -> Result<(), AllocError> {
 #[test]
 fn steps_by_a_kept_ghost(rt: HostRuntime) -> Result<(), AllocError> {
     let tables = Tables::new(rt.alloc())?;
-    let scene = two_bins(rt.alloc())?;
+    let scene = two_bins(rt.alloc(), true)?;
     let block = finished(rt.alloc(), &scene, &tables)?;
     assert!(rt; block.len() == 2);
     assert_eq!(rt; block.place(0), [1794, 0, 0]);
@@ -320,6 +324,17 @@ fn across_face(alloc: Global) -> Result<Scene, AllocError>
     })
 }
 
+/// Does a task on the first of the two leaves alone.
+fn do_first(scene: &Scene, tables: &Tables, kind: Kind, task: u32, block: &mut Block)
+    requires scene { scene.now ≡ across_face }
+    requires number { task < 6 }
+    requires line { line_at across_face task ≡ leaf_line kind 0 }
+    requires first { HasFirst scene.now task 0 block.old }
+    ensures { HasFirst scene.now (task + 1) 0 block.new }
+{
+    do_task(scene, tables, kind, task, block);
+}
+
 /// Does the tasks on a block of each leaf.
 fn do_across(scene: &Scene, tables: &Tables, first: &mut Block, second: &mut Block)
     requires scene { scene.now ≡ across_face }
@@ -328,7 +343,7 @@ fn do_across(scene: &Scene, tables: &Tables, first: &mut Block, second: &mut Blo
     ensures first { IsWhole first.new }
     ensures second { IsWhole second.new }
 {
-    do_task(scene, tables, Kind::Density, 0, first);
+    do_first(scene, tables, Kind::Density, 0, first);
     density_pair(
         scene,
         tables,
@@ -336,8 +351,8 @@ fn do_across(scene: &Scene, tables: &Tables, first: &mut Block, second: &mut Blo
         slice::from_mut(first),
         slice::from_mut(second),
     );
-    do_task(scene, tables, Kind::Ghost, 2, first);
-    do_task(scene, tables, Kind::Force, 3, first);
+    do_first(scene, tables, Kind::Ghost, 2, first);
+    do_first(scene, tables, Kind::Force, 3, first);
     force_pair(
         scene,
         tables,
@@ -345,7 +360,7 @@ fn do_across(scene: &Scene, tables: &Tables, first: &mut Block, second: &mut Blo
         slice::from_mut(first),
         slice::from_mut(second),
     );
-    do_task(scene, tables, Kind::Kick, 5, first);
+    do_first(scene, tables, Kind::Kick, 5, first);
 }
 
 /// The blocks of the two leaves, with all tasks done.

@@ -9,7 +9,6 @@ pub mod Events
 pub mod Exclusive
 pub mod FamilyMarks
 pub mod FamilyShape
-pub mod JoinedSeat
 pub mod Just
 pub mod Locks
 pub mod LocksKept

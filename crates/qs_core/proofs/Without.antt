@@ -1,5 +1,5 @@
 -- A list without a number.
-use Rattle.std.proofs.Common.{◌≡◌, ◌≢◌, ℕ, Bool, true, not, cond, eqb, List, ◌∷◌, Contains, count_by, refl, sym, ap, inl, inr, ◌∙◌, arith, eq-eqb, ne_eqb, true≢false, []}
+use Rattle.std.proofs.Common.{◌≡◌, ℕ, Bool, true, not, cond, eqb, List, ◌∷◌, Contains, count_by, refl, sym, ap, inl, inr, ◌∙◌, arith, eq-eqb, ne_eqb, true≢false, []}
 use Rattle.std.proofs.lemmas.Bool.{cases_eq}
 use Rattle.std.proofs.lemmas.List.Elements.{All-contains, filter_passes}
 use Rattle.std.proofs.lemmas.List.Sums.{sum_by-cons}

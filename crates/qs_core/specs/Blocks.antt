@@ -1,5 +1,5 @@
--- What a task asks of the blocks of its leaves, and what it leaves.
-use Rattle.std.specs.Prelude.{◌≡◌, ℕ, ◌<◌, ◌⊎◌, ◌↔◌, List, length, get_or, Contains}
+-- The blocks of a work: what a task asks of those of its leaves and what it leaves, and one block for each leaf.
+use Rattle.std.specs.Prelude.{◌≡◌, ℕ, ◌<◌, ◌⊎◌, ◌↔◌, List, [], length, get_or, Contains}
 use Rattle.qs_core.specs.Shape.{Shape, Precedes, Touches, leaves_below, leaves_of_other, task_at}
 
 -- a block of a leaf with the tasks that are done on it: it fits, hasn't the task done, and has done every task before it that touches the leaf
@@ -30,3 +30,19 @@ first_leaves shape task = leaves_below shape (task_at shape task).first
 
 abbrev pub second_leaves : Shape → ℕ → List ℕ
 second_leaves shape task = leaves_of_other shape (task_at shape task).second
+
+-- one block for each leaf, in order, and each fits
+pub record AreFitting {B : Type 0} (shape : Shape) (fits : ℕ → B → Type 0) (blocks : List B) : Type 0 where
+  pub one_each : length blocks ≡ shape.leaves
+  pub each : (leaf : ℕ) (d : B) → leaf < shape.leaves → fits leaf (get_or blocks leaf d)
+
+module _ {B : Type 0} (shape : Shape) (fits : ℕ → B → Type 0) (done : B → List ℕ) where
+  -- they fit, and nothing is done on them
+  pub record AreFresh (blocks : List B) : Type 0 where
+    pub fitting : AreFitting shape fits blocks
+    pub none_done : (leaf : ℕ) (d : B) → leaf < shape.leaves → done (get_or blocks leaf d) ≡ []
+
+  -- they fit, and of the tasks that touch a leaf just these are done on its block
+  pub record AreDone (which : ℕ → Type 0) (blocks : List B) : Type 0 where
+    pub fitting : AreFitting shape fits blocks
+    pub tasks : (leaf : ℕ) (d : B) → leaf < shape.leaves → (task : ℕ) → (Contains (done (get_or blocks leaf d)) task ↔ (which task × Touches shape task leaf))

@@ -47,10 +47,6 @@ word_count shape = 1 + length shape.parents + shape.leaves + length shape.tasks
 abbrev pub claimed_word : ℕ
 claimed_word = 2 ^ 63
 
--- the state with a seat more, which holds nothing
-abbrev pub with_seat : Core → Core
-with_seat core = record core { views = core.views ++ empty_view ∷ [] }
-
 -- the view of a seat
 abbrev pub view_at : List View → ℕ → View
 view_at views seat = unwrap_or (slice_get views seat) empty_view

@@ -2,7 +2,7 @@
 use Rattle.std.specs.Prelude.{◌≡◌, ◌⊎◌, ℕ, ◌<◌, ◌≤◌, ◌==◌, ◌↔◌, List, [], ◌∷◌, ◌++◌, length, count_by, Contains}
 use Rattle.qs_core.specs.declared.event.Event.{Event}
 use Rattle.qs_core.specs.Shape.{Shape, IsEdge, IsShape, Precedes, Touches}
-use Rattle.qs_core.specs.Core.{Core, opening, with_seat}
+use Rattle.qs_core.specs.Core.{Core, opening}
 use Rattle.qs_core.specs.Steps.{IsAllowed, effect}
 use Rattle.qs_core.specs.Sound.{IsClaimed, IsDone, IsExclusive, IsReleased, IsSound, unreleased}
 use Rattle.qs_core.specs.Machine.{Machine, made, played}
@@ -47,10 +47,6 @@ pub record AreUnreleased (shape : Shape) (core : Core) (after : ℕ) (tasks : Li
 -- the count of the edges into a task that aren't released is that of the tasks that they come from
 abbrev pub UnreleasedAreCounted : Type 0
 UnreleasedAreCounted = (shape : Shape) (core : Core) (after : ℕ) → IsShape shape → IsSound shape core → (tasks : List ℕ) × AreUnreleased shape core after tasks
-
--- a seat that joins with an empty view keeps a state sound
-abbrev pub EmptyViewKeepsSound : Type 0
-EmptyViewKeepsSound = (shape : Shape) (core : Core) → IsSound shape core → IsSound shape (with_seat core)
 
 -- a machine that is made is reached by no events
 abbrev pub MadeIsReached : Type 0

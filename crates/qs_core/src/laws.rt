@@ -1,16 +1,14 @@
 //! The laws of the machine.
-ghost use Rattle.qs_core.specs.Laws.{AllAreDone, ClaimedInOrder, ClaimedOnce, DoneWasReturned, EmptyViewKeepsSound, FinishedWasReturned, MadeIsReached, OpeningIsSound, PlayedIsReached, ReleasedMeansNone, ReturnedOnce, RunsAreSound, SoundIsExclusive, SoundIsInOrder, StepsChangeDone, StepsKeepSound, UnreleasedAreCounted};
+ghost use Rattle.qs_core.specs.Laws.{AllAreDone, ClaimedInOrder, ClaimedOnce, DoneWasReturned, FinishedWasReturned, MadeIsReached, OpeningIsSound, PlayedIsReached, ReleasedMeansNone, ReturnedOnce, RunsAreSound, SoundIsExclusive, SoundIsInOrder, StepsChangeDone, StepsKeepSound, UnreleasedAreCounted};
 
-/// Does nothing: its contract is the law of each step. The opening state is sound, an allowed step from a
-/// sound state gives a sound one, and a seat that joins with nothing keeps a state sound. In a sound state no
-/// two chains own cells of which one contains the other, and what precedes a claimed task is claimed and done.
-/// A step makes a task done on a leaf just where it returns the leaf for it. A task has no edge left to wait
-/// for just where each edge into it is released, and the edges left are as many as the tasks that they come
-/// from.
+/// Does nothing: its contract is the law of each step. The opening state is sound, and an allowed step from a
+/// sound state gives a sound one. In a sound state no two chains own cells of which one contains the other, and
+/// what precedes a claimed task is claimed and done. A step makes a task done on a leaf just where it returns
+/// the leaf for it. A task has no edge left to wait for just where each edge into it is released, and the edges
+/// left are as many as the tasks that they come from.
 pub fn steps_are_sound()
     ensures opening { OpeningIsSound }
     ensures kept { StepsKeepSound }
-    ensures joined { EmptyViewKeepsSound }
     ensures exclusive { SoundIsExclusive }
     ensures in_order { SoundIsInOrder }
     ensures done { StepsChangeDone }

@@ -63,7 +63,7 @@ impl TaskPlan {
 
 /// The cells, leaves and tasks of a work.
 #[derive(Drop)]
-pub struct Layout {
+pub(crate) struct Layout {
     parents: Vec<Option<u32>>,
     ranges: Vec<(u32, u32)>,
     leaves: u32,

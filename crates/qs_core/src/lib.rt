@@ -13,7 +13,6 @@ mod work;
 
 pub use event::{CLAIMED, Event, Note, Step, StepKind};
 pub use laws::{runs_are_sound, steps_are_sound};
-pub use layout::Layout;
 pub use player::play;
 pub use seat::Seat;
 pub use start::opening_words;

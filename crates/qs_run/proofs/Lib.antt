@@ -1,4 +1,4 @@
 pub mod Cut
+pub mod LeafRanges
 pub mod Progress
-pub mod Spans
 pub mod Turns

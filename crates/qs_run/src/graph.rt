@@ -1,9 +1,12 @@
 //! Runs of whole graphs.
 ghost use Rattle.std.specs.Prelude.{◌≤◌, IfErr, IfOk};
-ghost use Rattle.qs_run.specs.Blocks.{AreAllDone, AreFitting, AreFresh};
+ghost use Rattle.qs_core.specs.Blocks.{AreFitting, AreFresh};
+ghost use Rattle.qs_run.specs.Blocks.{AreAllDone};
 
-use crate::ordered::do_in_order;
+use crate::ordered::finish_rest;
 use qs_core::Work;
+use qs_table::{NoRoom, ResTable};
+use qs_worker::{Crew, NoCrew};
 use sph_edge::Gate;
 use std::alloc::Global;
 use std::thread::Threads;
@@ -14,13 +17,14 @@ pub struct RunRefused<B> {
     pub blocks: Vec<B>,
 }
 
-/// Does every task of a work on the blocks of its leaves, and passes the gate with each. So far all is done on the
-/// calling thread, in the order of the tasks' numbers, whatever the number of workers.
+/// Does every task of a work on the blocks of its leaves, and passes the gate with each. The workers go over the tasks in as
+/// many threads, the calling one among them, where these can be made; what they leave is done on the calling thread, which
+/// passes the gate with the number `workers`. A run is refused before any worker starts.
 pub fn run_graph<R: Threads + Sync, W: Work, G: Gate>(
     rt: &R,
     alloc: Global,
     work: &W,
-    mut blocks: Vec<W::Block>,
+    blocks: Vec<W::Block>,
     workers: u32,
     gate: &G,
 ) -> Result<Vec<W::Block>, RunRefused<W::Block>>
@@ -29,6 +33,18 @@ pub fn run_graph<R: Threads + Sync, W: Work, G: Gate>(
     ensures all_done { IfOk result (λ v. AreAllDone (W.shape (W.plan work.now)) (W.fits (W.plan work.now)) W.done v.items) }
     ensures handed_back { IfErr result (λ r. AreFitting (W.shape (W.plan work.now)) (W.fits (W.plan work.now)) r.blocks.items) }
 {
-    do_in_order(work, &mut blocks, 0, gate);
-    Ok(blocks)
+    let (table, seats) = match ResTable::new(alloc, work, blocks, workers) {
+        Ok(opened) => opened,
+        Err(NoRoom { blocks }) => return Err(RunRefused { blocks }),
+    };
+    let mut crew = match Crew::make(alloc, work, seats) {
+        Ok(crew) => crew,
+        Err(NoCrew { seats }) => {
+            let blocks = table.close(seats).into_blocks();
+            return Err(RunRefused { blocks });
+        }
+    };
+    crew.walk(rt, work, &table, gate);
+    let closed = table.close(crew.into_seats());
+    Ok(finish_rest(work, closed, workers, gate))
 }

@@ -5,6 +5,7 @@ mod graph;
 mod ordered;
 
 pub use graph::{RunRefused, run_graph};
+pub use ordered::finish_rest;
 
 #[cfg(test)]
 mod tests;

@@ -1,27 +1,35 @@
 //! Tasks in the order of their numbers.
 ghost use Rattle.std.specs.Prelude.{◌≡◌, ◌<◌, length};
 ghost use Rattle.qs_core.specs.Shape.{IsShape};
-ghost use Rattle.qs_run.specs.Blocks.{AreAllDone, AreFresh};
-ghost use Rattle.qs_run.specs.inner.Steps.{AreSpans, CanDo, IsDoneOn};
+ghost use Rattle.qs_core.specs.Blocks.{AreDone};
+ghost use Rattle.qs_run.specs.Blocks.{AreAllDone};
+ghost use Rattle.qs_table.specs.Blocks.{IsClaimedTask};
+ghost use Rattle.qs_run.specs.inner.Steps.{AreLeafRanges, CanDo, IsDoneOn};
 
 use qs_core::Work;
+use qs_table::Closed;
 use sph_edge::Gate;
 
-/// Does every task, in the order of their numbers, past the gate with the number of this worker.
-pub(crate) fn do_in_order<W: Work, G: Gate>(
+/// Does each task that wasn't claimed when a table was closed, in the order of their numbers, and passes the gate with the
+/// number of this worker: these are the blocks then, in the order of the leaves. It takes no memory.
+pub fn finish_rest<W: Work, G: Gate>(
     work: &W,
-    blocks: &mut [W::Block],
+    mut closed: Closed<W>,
     worker: u32,
     gate: &G,
-)
-    requires { AreFresh (W.shape (W.plan work.now)) (W.fits (W.plan work.now)) W.done blocks.old }
-    ensures { AreAllDone (W.shape (W.plan work.now)) (W.fits (W.plan work.now)) W.done blocks.new }
+) -> Vec<W::Block>
+    requires shape { closed.shape ≡ W.shape (W.plan work.now) }
+    requires claimed_done { AreDone (W.shape (W.plan work.now)) (W.fits (W.plan work.now)) W.done (IsClaimedTask (W.shape (W.plan work.now)) closed.words) closed.blocks }
+    ensures all_done { AreAllDone (W.shape (W.plan work.now)) (W.fits (W.plan work.now)) W.done result.items }
 {
     // The call whose contract has the laws of what is scheduled.
     let _cells = work.cells();
     for task in 0..work.tasks() {
-        do_task(work, task, blocks, worker, gate);
+        if !closed.claimed(task) {
+            do_task(work, task, closed.blocks_mut(), worker, gate);
+        }
     }
+    closed.into_blocks()
 }
 
 /// Passes the gate with a task, and does the task on the blocks of all leaves: those of its cells' leaves are cut out.
@@ -32,7 +40,7 @@ fn do_task<W: Work, G: Gate>(work: &W, task: u32, blocks: &mut [W::Block], worke
     ensures { IsDoneOn (W.shape (W.plan work.now)) task (W.fits (W.plan work.now)) W.done blocks.old blocks.new }
 {
     gate.pass(worker, task);
-    let (first, second) = spans_of(work, task);
+    let (first, second) = leaf_ranges(work, task);
     if first.to <= second.from {
         let (low, high) = blocks.split_at_mut(second.from);
         work.apply(
@@ -52,16 +60,16 @@ fn do_task<W: Work, G: Gate>(work: &W, task: u32, blocks: &mut [W::Block], worke
 
 /// The leaves below a cell: from one number up to another, which is excluded.
 #[derive(Clone, Copy)]
-struct Span {
+struct LeafRange {
     from: usize,
     to: usize,
 }
 
-impl Span {
-    fn of(range: (u32, u32)) -> Span
+impl LeafRange {
+    fn of(range: (u32, u32)) -> LeafRange
         ensures { result ≡ record { from = range.0; to = range.1 } }
     {
-        Span {
+        LeafRange {
             from: range.0 as usize,
             to: range.1 as usize,
         }
@@ -69,18 +77,18 @@ impl Span {
 }
 
 /// The leaves of a task's first cell, and of its second: none, behind the others, where it has one cell.
-fn spans_of<W: Work>(work: &W, task: u32) -> (Span, Span)
+fn leaf_ranges<W: Work>(work: &W, task: u32) -> (LeafRange, LeafRange)
     requires laws { IsShape (W.shape (W.plan work.now)) }
     requires task { task < length (W.shape (W.plan work.now)).tasks }
-    ensures { AreSpans (W.shape (W.plan work.now)) task result.0.from result.0.to result.1.from result.1.to }
+    ensures { AreLeafRanges (W.shape (W.plan work.now)) task result.0.from result.0.to result.1.from result.1.to }
 {
     let (first, second) = work.cells_of(task);
-    let first = Span::of(work.leaf_range(first));
+    let first = LeafRange::of(work.leaf_range(first));
     match second {
-        Some(cell) => (first, Span::of(work.leaf_range(cell))),
+        Some(cell) => (first, LeafRange::of(work.leaf_range(cell))),
         None => (
             first,
-            Span {
+            LeafRange {
                 from: first.to,
                 to: first.to,
             },

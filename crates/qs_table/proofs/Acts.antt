@@ -1,10 +1,12 @@
 -- A step of the machine, as a seat at the shared words makes it.
-use Rattle.std.proofs.Common.{◌≡◌, ℕ, ◌+◌, ◌<◌, ◌⊎◌, ◌↔◌, ◌==◌, cond, Bool, false, List, ◌∷◌, length, map, slice_index, slice_set, sum_by, count_by, Contains, Some, refl, sym, ap, ◌∙◌, subst, inl, inr, length-set, arith}
+use Rattle.std.proofs.Common.{◌≡◌, ℕ, ◌+◌, ◌<◌, ◌⊎◌, ◌↔◌, ◌==◌, cond, Bool, false, List, ◌∷◌, length, map, slice_index, slice_set, sum_by, count_by, Contains, Option, Some, refl, sym, ap, ◌∙◌, subst, inl, inr, length-set, arith}
 use Rattle.std.specs.Prelude.{⊤}
 use Rattle.std.proofs.lemmas.Bool.{cases_eq, cases_lt, cond_both}
 use Rattle.std.proofs.lemmas.List.Sums.{sum_by_push}
 use Rattle.std.proofs.lemmas.List.{get_or_past}
 use Rattle.std.proofs.lemmas.Option.{slice_get_within}
+use mathlib.Core.Option as maybe
+use lib.ListN.{get_elem?}
 use Rattle.qs_core.specs.declared.event.Event.{Event}
 use Rattle.qs_core.specs.declared.event.Note.{Note}
 use Rattle.qs_core.specs.declared.event.Step.{Step}
@@ -23,12 +25,12 @@ use Rattle.qs_core.proofs.Outs.{out_count, outs_change}
 use Rattle.qs_core.proofs.Views.{IsView-changed_other, view_at_is}
 use Rattle.lists.proofs.Counts.{count-pos}
 use Rattle.lists.proofs.Elements.{Contains-map}
-use Rattle.lists.proofs.Places.{slice_get-set_same}
-use Rattle.lists.proofs.Sums.{same_place}
+use Rattle.lists.proofs.Places.{Contains-from_slice_get, slice_get-set_same}
+use Rattle.lists.proofs.Sums.{same_place, share-le}
 use Rattle.qs_table.specs.declared.view.Fetched.{Fetched}
 use Rattle.qs_table.specs.declared.view.SeatView.{SeatView}
 use Rattle.qs_table.specs.Notes.{claims_of, is_claim, is_release, releases_of}
-use Rattle.qs_table.specs.Rule.{AreDone, AreOut, AreSeats}
+use Rattle.qs_table.specs.Rule.{AreDoneOn, AreOut, AreSeats}
 use Rattle.qs_table.specs.Views.{knows_with, noted}
 use Rattle.qs_table.proofs.Bundles.{Changes, changed_length}
 
@@ -81,6 +83,18 @@ same_out shape view Release seen c = refl
 pub fetched_is_out : (fetched : List Fetched) (out : List ℕ) (f : Fetched) → map (λ (g : Fetched). g.leaf) fetched ≡ out → Contains fetched f → Contains out f.leaf
 fetched_is_out fetched out f is c = subst (λ (xs : List ℕ). Contains xs f.leaf) is (Contains-map (λ (g : Fetched). g.leaf) fetched f c)
 
+-- a leaf that a seat has out is out
+pub some_has : (core : Core) (u : SeatView) (leaf : ℕ) → IsView core u.place u.holds → Contains u.holds.out leaf → 0 < outs_of leaf core.views
+some_has core u leaf is c =
+    let share = share-le (λ (w : View). out_count leaf w.out) core.views u.holds (Contains-from_slice_get core.views u.place u.holds is.is) in
+    let some = count-pos u.holds.out leaf c in
+    omega arith
+
+-- and no other seat has it out
+pub one_has : (shape : Shape) (core : Core) (u v : SeatView) (leaf : ℕ) → IsSound shape core → IsView core u.place u.holds → IsView core v.place v.holds → Contains u.holds.out leaf → Contains v.holds.out leaf → u.place ≡ v.place
+one_has shape core u v leaf sound is is' c c' =
+    same_place (λ (w : View). out_count leaf w.out) core.views u.place v.place u.holds v.holds is.is is'.is (count-pos u.holds.out leaf c) (count-pos v.holds.out leaf c') (sound.locks.leaves.one_out leaf)
+
 -- the note of such a step is no claim and no release
 pub no_claim : (shape : Shape) (v : SeatView) (step : Step) (seen task : ℕ) → LeavesTasks step → is_claim task (noted shape v step seen) ≡ false
 no_claim shape v (Lock cell) seen task c = refl
@@ -112,6 +126,10 @@ claimed_is_task shape core task sound claimed =
           let none : slice_index core.words (task_place shape task) ≡ 0 = get_or_past core.words (task_place shape task) 0 (omega arith) in
           absurd (let e : slice_index core.words (task_place shape task) ≡ claimed_word = claimed in omega arith)
     ]
+
+-- the slots of leaves that other seats have out stay as they are
+abbrev pub SlotsStay : {B : Type 0} → Core → SeatView → List (maybe.Option (Option B)) → List (maybe.Option (Option B)) → Type 0
+SlotsStay core v slots slots' = (leaf : ℕ) → 0 < outs_of leaf core.views → (Contains v.holds.out leaf → ⊥) → get_elem? slots' leaf ≡ get_elem? slots leaf
 
 -- the state after the step of a seat with this view
 abbrev pub core_after : Shape → Core → ℕ → Step → View → Core
@@ -175,7 +193,7 @@ module _ (shape : Shape) (laws : IsShape shape) (core : Core) (sound : IsSound s
       )
 
   -- where the step doesn't return the leaf, what is done on it stays
-  pub same_done : (leaf : ℕ) → (step ≡ Return leaf → ⊥) → (tasks : List ℕ) → AreDone shape core tasks leaf → AreDone shape core_then tasks leaf
+  pub same_done : (leaf : ℕ) → (step ≡ Return leaf → ⊥) → (tasks : List ℕ) → AreDoneOn shape core tasks leaf → AreDoneOn shape core_then tasks leaf
   same_done leaf n tasks was task =
       let d = done_is task leaf in (
         λ c. d.1 (inl ((was task).0 c)),
@@ -206,9 +224,9 @@ module _ (shape : Shape) (laws : IsShape shape) (core : Core) (sound : IsSound s
   returns_out leaf e = let can : CanReturn shape v.holds leaf = subst (Allowed shape v.holds) e allowed in can.out
 
   -- the seats, where this one knows what its step taught it
-  module _ (fetched : List Fetched) where
+  module _ (fetched : List Fetched) (hand : Option ℕ) where
     abbrev pub view_then : SeatView
-    view_then = knows_with shape v step seen_at fetched
+    view_then = knows_with shape v step seen_at fetched hand
 
     module _ (known after : List SeatView) (change : Changes known after v view_then) (seats : AreSeats core known) where
       pub seats_then : AreSeats core_then after
@@ -225,13 +243,15 @@ module _ (shape : Shape) (laws : IsShape shape) (core : Core) (sound : IsSound s
       }
 
       -- what other seats have noted of their leaves stays right
-      pub others_out : (u : SeatView) → Contains known u → (u.place ≡ v.place → ⊥) → AreOut shape core u → AreOut shape core_then u
-      others_out u there apart was = record {
-        leaves = was.leaves;
-        tasks = λ f c.
-            same_done f.leaf (λ e. apart (same_place (λ (w : View). out_count f.leaf w.out) core.views u.place v.place u.holds v.holds (seats.each u there).is is.is
-            (count-pos u.holds.out f.leaf (fetched_is_out u.fetched u.holds.out f was.leaves c)) (count-pos v.holds.out f.leaf (returns_out f.leaf e)) (sound.locks.leaves.one_out f.leaf))) f.done (was.tasks f c);
-      }
+      pub others_out : {B : Type 0} (slots slots' : List (maybe.Option (Option B))) → SlotsStay core v slots slots' → (u : SeatView) → Contains known u → (u.place ≡ v.place → ⊥) → AreOut shape core slots u → AreOut shape core_then slots' u
+      others_out slots slots' stay u there apart was =
+          let out : (f : Fetched) → Contains u.fetched f → Contains u.holds.out f.leaf = λ f c. fetched_is_out u.fetched u.holds.out f was.leaves c in
+          let theirs : (f : Fetched) → Contains u.fetched f → Contains v.holds.out f.leaf → ⊥ = λ f c mine. apart (one_has shape core u v f.leaf sound (seats.each u there) is (out f c) mine) in
+          record {
+            leaves = was.leaves;
+            tasks = λ f c. same_done f.leaf (λ e. theirs f c (returns_out f.leaf e)) f.done (was.tasks f c);
+            empty = λ f c n. stay f.leaf (some_has core u f.leaf (seats.each u there) (out f c)) (theirs f c) ∙ was.empty f c n;
+          }
 
       -- the notes that count
       pub counts_then : (p : Note → Bool) → sum_by (λ (u : SeatView). count_by p u.notes) after ≡ sum_by (λ (u : SeatView). count_by p u.notes) known + cond {A = ℕ} (p (noted shape v step seen_at)) 1 0

@@ -1,5 +1,5 @@
 -- Cutting a bundle of seats in two, making one of two, and looking at two, keep the rule.
-use Rattle.std.proofs.Common.{◌≡◌, ℕ, ◌<◌, List, [], ◌∷◌, slice_get, slice_index, slice_set, count_by, Option, refl, sym, ap, ◌∙◌, subst}
+use Rattle.std.proofs.Common.{◌≡◌, ℕ, ◌<◌, List, [], ◌∷◌, slice_get, slice_index, count_by, Option, refl, sym, ap, ◌∙◌, subst}
 use Rattle.std.proofs.lemmas.Option.{same_Some}
 use mathlib.Core.Option as maybe
 use mathlib.Core.Option.{none, some}
@@ -14,16 +14,12 @@ use Rattle.qs_core.proofs.Exclusive.{owned_apart}
 use Rattle.qs_table.specs.declared.view.Bundle.{Bundle}
 use Rattle.qs_table.specs.declared.view.SeatView.{SeatView}
 use Rattle.qs_table.specs.Notes.{claims_of, is_claim, is_release, releases_of}
-use Rattle.qs_table.specs.Rule.{IsShown, Shows}
+use Rattle.qs_table.specs.Rule.{AreClaims, AreReleases, IsShown, Shows}
 use Rattle.qs_table.specs.Seats.{OwnApart}
 use Rattle.qs_table.specs.Views.{no_seats, seats_in}
 use Rattle.qs_table.specs.inner.Plays.{Met, first_alone, pair, together, without_first}
 use Rattle.qs_table.proofs.Bundles.{AreSame, in_bundles, pair_apart, same_joined, same_length, same_split}
-
--- a word that is written over by itself
-same_word : (ws : List ℕ) → slice_set ws 0 (slice_index ws 0) ≡ ws
-same_word [] = refl
-same_word (w ∷ ws) = refl
+use Rattle.qs_table.proofs.Elems.{same_word}
 
 -- the seats of one pair are those of the other, where the bundles are one
 same_pair : {P : Type 0} (plan p : P) (v w a b : SeatView) → pair plan v w ≡ pair p a b → (plan ≡ p) × (v ≡ a) × (w ≡ b)
@@ -33,34 +29,38 @@ same_pair plan p v w a b e = (
   same_Some w b (ap (λ (x : Bundle _). slice_get x.seats 1) e),
 )
 
+-- where as many notes claim and release, the claims and releases are right as before
+pub same_claims : (shape : Shape) (core : Core) (known after : List SeatView) → ((task : ℕ) → claims_of task after ≡ claims_of task known) → AreClaims shape core known → AreClaims shape core after
+same_claims shape core known after same claims = record {
+  one = λ task. rw (same task) (claims.one task);
+  claimed = λ task l.
+      let was = claims.claimed task l in (
+        λ some. was.0 (subst (λ (n : ℕ). 0 < n) (same task) some),
+        λ c. subst (λ (n : ℕ). 0 < n) (sym (same task)) (was.1 c),
+      );
+}
+
+pub same_releases : (shape : Shape) (core : Core) (known after : List SeatView) → ((task : ℕ) → releases_of task after ≡ releases_of task known) → AreReleases shape core known → AreReleases shape core after
+same_releases shape core known after same releases = record {
+  one = λ task. rw (same task) (releases.one task);
+  released = λ task l some. releases.released task l (subst (λ (n : ℕ). 0 < n) (same task) some);
+}
+
 module _ {B : Type 0} (shape : Shape) (fits : ℕ → B → Type 0) (done : B → List ℕ) where
   -- the same seats show the same state
   same_shown : (core : Core) (slots : List (maybe.Option (Option B))) (known after : List SeatView) → AreSame known after → IsShown shape fits done core slots known → IsShown shape fits done core slots after
-  same_shown core slots known after same shown =
-      let claims : (task : ℕ) → claims_of task after ≡ claims_of task known = λ task. same.sums (λ (v : SeatView). count_by (is_claim task) v.notes) in
-      let releases : (task : ℕ) → releases_of task after ≡ releases_of task known = λ task. same.sums (λ (v : SeatView). count_by (is_release task) v.notes) in
-      record {
-        sound = shown.sound;
-        seats = record {
-          each = λ v c. shown.seats.each v (same.back v c);
-          once = λ place l. same.sums _ ∙ shown.seats.once place l;
-          all = same_length known after same ∙ shown.seats.all;
-        };
-        homes = shown.homes;
-        outs = λ v c. shown.outs v (same.back v c);
-        claims = record {
-          one = λ task. rw (claims task) (shown.claims.one task);
-          claimed = λ task l.
-              let was = shown.claims.claimed task l in (
-                λ some. was.0 (subst (λ (n : ℕ). 0 < n) (claims task) some),
-                λ c. subst (λ (n : ℕ). 0 < n) (sym (claims task)) (was.1 c),
-              );
-        };
-        releases = record {
-          one = λ task. rw (releases task) (shown.releases.one task);
-          released = λ task l some. shown.releases.released task l (subst (λ (n : ℕ). 0 < n) (releases task) some);
-        };
-      }
+  same_shown core slots known after same shown = record {
+    sound = shown.sound;
+    seats = record {
+      each = λ v c. shown.seats.each v (same.back v c);
+      once = λ place l. same.sums _ ∙ shown.seats.once place l;
+      all = same_length known after same ∙ shown.seats.all;
+    };
+    homes = shown.homes;
+    outs = λ v c. shown.outs v (same.back v c);
+    claims = same_claims shape core known after (λ task. same.sums (λ (v : SeatView). count_by (is_claim task) v.notes)) shown.claims;
+    releases = same_releases shape core known after (λ task. same.sums (λ (v : SeatView). count_by (is_release task) v.notes)) shown.releases;
+  }
 
   module _ {P : Type 0} (count : ℕ) where
     abbrev Rule : State (Option B) (Bundle P) → Type 0
@@ -93,7 +93,7 @@ module _ {B : Type 0} (shape : Shape) (fits : ℕ → B → Type 0) (done : B �
         → Allows Rule slots seat me 0 (λ n. n) (Met shapes (table.step slots 0 0 0 none) me)
     meet_allowed slots seat plan v w me shapes is me_is s rule wide at small =
         let same : s ≡ stepped s 0 (slice_index s.words 0) seat me.1 me.0 table.keeps = λ i. record {
-          words = sym (same_word s.words) i;
+          words = sym (same_word s.words 0) i;
           homes = s.homes;
           views = sym (set_again s.views seat me.0 at) i;
         } in (

@@ -1,15 +1,16 @@
 -- Blocks in slots: at the start they are moved in, and at the end out again.
-use Rattle.std.proofs.Common.{◌≡◌, ℕ, zero, suc, ◌+◌, ◌≤◌, ◌<◌, List, [], ◌∷◌, ◌++◌, map, length, slice_get, Option, Some, None, refl, reverse, sym, ap, ◌∙◌, subst, append-nil, append_assoc, length-append, take, slice_index_or, slice_set, Bool, false, arith}
+use Rattle.std.proofs.Common.{◌≡◌, ℕ, zero, suc, ◌+◌, ◌≤◌, ◌<◌, List, [], ◌∷◌, ◌++◌, map, length, slice_get, get_or, Option, Some, None, refl, reverse, sym, ap, ◌∙◌, subst, append-nil, append_assoc, length-append, take, slice_index_or, slice_set, Bool, false, arith}
 use Rattle.std.proofs.lemmas.List.{length-map, reverse-append, take_more}
 use Rattle.std.proofs.lemmas.List.Elements.{filter_map-append}
-use Rattle.std.proofs.lemmas.Option.{none-some, same_Some, slice_get-map, slice_get_within}
+use Rattle.std.proofs.lemmas.Option.{get_or_from_slice_get, none-some, same_Some, slice_get-get_or, slice_get-map}
 use Rattle.std.specs.Option.{option_map, option_to_list}
 use mathlib.Core.Option.{some}
 use lib.ListN.{get_elem?}
 use Rattle.qs_core.specs.Shape.{IsEdge, IsPath, IsShape, Shape}
 use Rattle.qs_table.specs.declared.view.SeatView.{SeatView}
-use Rattle.qs_table.specs.Blocks.{AreFresh, AreReturned, IsReturned, IsTaken}
-use Rattle.qs_table.specs.inner.Slots.{AreFreshSlots, IsClosed, blocks_in}
+use Rattle.qs_core.specs.Blocks.{AreFresh}
+use Rattle.qs_table.specs.Blocks.{AreReturned, IsTaken}
+use Rattle.qs_table.specs.inner.Slots.{AreFreshSlots, IsClosed, IsReturned, blocks_in}
 use Rattle.qs_table.proofs.Elems.{elem_or, elem_within, get_from_elem}
 
 -- the places up to one are empty, and those behind it as they were
@@ -81,10 +82,15 @@ module _ {B : Type 0} where
     -- fresh blocks stand in fresh slots
     pub fresh_slots : (blocks : List B) → AreFresh shape fits done blocks → AreFreshSlots shape fits done (map Some blocks)
     fresh_slots blocks fresh = record {
-      one_each = length-map blocks Some ∙ fresh.one_each;
+      one_each = length-map blocks Some ∙ fresh.fitting.one_each;
       each = λ leaf l.
-          let at = there blocks leaf (subst (λ (n : ℕ). leaf < n) (sym fresh.one_each) l) in
-          record { block = at.0; at = at.2; good = fresh.each leaf at.0 at.1 };
+          let at = there blocks leaf (subst (λ (n : ℕ). leaf < n) (sym fresh.fitting.one_each) l) in
+          let same : get_or blocks leaf at.0 ≡ at.0 = get_or_from_slice_get blocks leaf at.0 at.0 at.1 in
+          record {
+            block = at.0;
+            at = at.2;
+            good = record { fitting = subst (fits leaf) same (fresh.fitting.each leaf at.0 l); none_done = ap done (sym same) ∙ fresh.none_done leaf at.0 l };
+          };
     }
 
     -- what precedes a task goes by its edges
@@ -100,13 +106,16 @@ module _ {B : Type 0} where
     returned_blocks known words slots laws closed =
         let all : slots ≡ map Some (blocks_in slots) = all_there slots (λ leaf l. let r = closed.each leaf (subst (λ (n : ℕ). leaf < n) closed.one_each l) in (r.block, get_from_elem slots leaf (Some r.block) r.at)) in
         let many : length (blocks_in slots) ≡ shape.leaves = sym (length-map (blocks_in slots) Some) ∙ ap length (sym all) ∙ closed.one_each in
+        let good : (leaf : ℕ) (d : B) → leaf < shape.leaves → IsReturned shape fits done words leaf (get_or (blocks_in slots) leaf d) = λ leaf d l.
+        let r = closed.each leaf l in
+        let e = slice_get-get_or (blocks_in slots) leaf d (subst (λ (n : ℕ). leaf < n) (sym many) l) in
+        let at : slice_get slots leaf ≡ Some (Some (get_or (blocks_in slots) leaf d)) =
+        ap (λ (ss : List (Option B)). slice_get ss leaf) all ∙ slice_get-map Some (blocks_in slots) leaf ∙ ap (option_map Some) e in
+        let same : r.block ≡ get_or (blocks_in slots) leaf d =
+        same_Some r.block (get_or (blocks_in slots) leaf d) (same_Some (Some r.block) (Some (get_or (blocks_in slots) leaf d)) (sym (get_from_elem slots leaf (Some r.block) r.at) ∙ at)) in
+        subst (IsReturned shape fits done words leaf) same r.good in
         record {
-          one_each = many;
-          each = λ leaf block e.
-              let r = closed.each leaf (subst (λ (n : ℕ). leaf < n) many (slice_get_within (blocks_in slots) leaf block e)) in
-              let at : slice_get slots leaf ≡ Some (Some block) = ap (λ (ss : List (Option B)). slice_get ss leaf) all ∙ slice_get-map Some (blocks_in slots) leaf ∙ ap (option_map Some) e in
-              let same : r.block ≡ block = same_Some r.block block (same_Some (Some r.block) (Some block) (sym (get_from_elem slots leaf (Some r.block) r.at) ∙ at)) in
-              subst (IsReturned shape fits done words leaf) same r.good;
+          tasks = record { fitting = record { one_each = many; each = λ leaf d l. (good leaf d l).fitting }; tasks = λ leaf d l task. let both = (good leaf d l).tasks task in (λ c. let was = both.0 c in ((closed.within task was.0, was.0), was.1), λ h. both.1 (h.0.1, h.1)) };
           released = closed.released;
           in_order = λ before after l p taken. along (IsTaken shape words) closed.in_order laws before p.0 after l p.1 taken;
         }

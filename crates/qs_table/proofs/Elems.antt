@@ -1,5 +1,5 @@
 -- Lists as the shared words read them.
-use Rattle.std.proofs.Common.{◌≡◌, ℕ, zero, suc, ◌+◌, ◌<◌, List, [], ◌∷◌, length, get_or, set, slice_get, sum_by, Some, refl, sym, ap, arith}
+use Rattle.std.proofs.Common.{◌≡◌, ℕ, zero, suc, ◌+◌, ◌<◌, List, [], ◌∷◌, length, get_or, set, slice_get, slice_index, slice_set, sum_by, Some, refl, sym, ap, arith}
 use Rattle.std.proofs.lemmas.List.Sums.{sum_by-cons, sum_by-set}
 use mathlib.Core.Option.{some, some-injective, some-ne-none}
 use lib.ListN.{get_elem?}
@@ -32,3 +32,9 @@ module _ {X : Type 0} where
   pub length_is_sum : (xs : List X) → length xs ≡ sum_by (λ (x : X). 1) xs
   length_is_sum [] = refl
   length_is_sum (x ∷ xs) = let r = length_is_sum xs in let s = sum_by-cons (λ (x : X). 1) x xs in omega arith
+
+-- a word that is written over by itself
+pub same_word : (ws : List ℕ) (i : ℕ) → slice_set ws i (slice_index ws i) ≡ ws
+same_word [] i = refl
+same_word (w ∷ ws) zero = refl
+same_word (w ∷ ws) (suc i) = ap (λ (vs : List ℕ). w ∷ vs) (same_word ws i)

@@ -1,6 +1,7 @@
 -- What a table shows at its end to the seat that has gathered all seats, where they hold nothing.
 use Rattle.std.proofs.Common.{◌≡◌, ℕ, ◌<◌, ◌↔◌, ◌==◌, List, [], ◌∷◌, length, set, All, sum_by, count_by, Contains, Option, Some, refl, sym, ap, ◌∙◌, subst, inl, inr, arith}
-use Rattle.std.proofs.lemmas.Bool.{cases_eq}
+use Rattle.std.proofs.lemmas.Bool.{cases_eq, cases_lt}
+use Rattle.std.proofs.lemmas.List.{get_or_past}
 use Rattle.std.proofs.lemmas.List.Elements.{All-contains}
 use Rattle.std.proofs.lemmas.Option.{none-some, same_Some, slice_get_within}
 use mathlib.Core.Option.{some, some-injective}
@@ -13,7 +14,7 @@ use Rattle.lists.proofs.Elements.{Contains-nil}
 use Rattle.lists.proofs.Places.{Contains-from_slice_get, get_from_Contains}
 use Rattle.lists.proofs.Sums.{share-le, some_share, sum_by-none}
 use Rattle.qs_core.specs.Shape.{IsShape, Shape, Touches}
-use Rattle.qs_core.specs.Core.{View, empty_view}
+use Rattle.qs_core.specs.Core.{View, empty_view, task_place}
 use Rattle.qs_core.specs.Sound.{IsDone, IsView, left_in, outs_of, unreleased}
 use Rattle.qs_table.specs.declared.view.Bundle.{Bundle}
 use Rattle.qs_table.specs.declared.view.SeatView.{SeatView}
@@ -22,10 +23,9 @@ use Rattle.qs_table.specs.Notes.{claims_of, is_claim}
 use Rattle.qs_table.specs.Rule.{Shows}
 use Rattle.qs_table.specs.Views.{no_seats, seats_in}
 use Rattle.qs_table.specs.inner.Slots.{IsClosed, blocks_in}
-use Rattle.qs_table.specs.inner.Tokens.{IsUnused}
+use Rattle.qs_table.specs.inner.Tokens.{HoldsNone}
 use Rattle.qs_table.proofs.Bundles.{bundle_of, sum_in}
 use Rattle.qs_table.proofs.Drained.{returned_blocks}
-use Rattle.qs_table.proofs.Gathered.{no_claims}
 use Rattle.qs_table.proofs.Elems.{get_from_elem, length_is_sum, sum_set}
 
 none_long : {X : Type 0} (xs : List X) → length xs ≡ 0 → xs ≡ []
@@ -92,12 +92,12 @@ module _ {B P : Type 0} (shape : Shape) (fits : ℕ → B → Type 0) (done : B 
         let none = sum_by-none (λ (x : View). left_in x.running task) rule.core.views (λ x c. ap (λ (w : View). left_in w.running task) (each_empty x c)) in
         omega (arith, none)
 
-    done_when : (task leaf : ℕ) → IsDone shape rule.core task leaf ↔ (Touches shape task leaf × IsTaken shape rule.core.words task)
+    done_when : (task leaf : ℕ) → IsDone shape rule.core task leaf ↔ (IsTaken shape rule.core.words task × Touches shape task leaf)
     done_when task leaf = (
-      λ d. (d.touches, d.claimed),
+      λ d. (d.claimed, d.touches),
       λ p. record {
-        touches = p.0;
-        claimed = p.1;
+        touches = p.1;
+        claimed = p.0;
         none_left = λ place view running x r c. none-some running (ap (λ (w : View). w.running) (sym (view_empty place view x)) ∙ r.is);
       },
     )
@@ -118,9 +118,19 @@ module _ {B P : Type 0} (shape : Shape) (fits : ℕ → B → Type 0) (done : B 
               );
             };
           };
+      within = λ task t. elim (cases_lt task (length shape.tasks)) [
+        | inl l ↦ l
+        | inr past ↦
+            let words = rule.shown.sound.locks.words in
+            let none = get_or_past rule.core.words (task_place shape task) 0 (omega arith) in
+            absurd (omega arith)
+      ];
       in_order = λ before after l l' edge c. (rule.shown.sound.tasks.in_order before after 0 l l' edge c).0;
       released = λ task l n. rule.shown.sound.tasks.task_words task l n ∙ none_left task;
-      claims = λ task l c. subst (λ (n : ℕ). 0 < n) (claims_here task) ((rule.shown.claims.claimed task l).1 c);
+      claims = λ task l. (
+        λ c. subst (λ (n : ℕ). 0 < n) (claims_here task) ((rule.shown.claims.claimed task l).1 c),
+        λ some. (rule.shown.claims.claimed task l).0 (subst (λ (n : ℕ). 0 < n) (sym (claims_here task)) some),
+      );
     }
 
   pub closes : (words : List ℕ) (slots : List (Option B)) (seat : ℕ) (b : Bundle P) → length b.seats ≡ count → ((v : SeatView) → Contains b.seats v → v.holds ≡ empty_view)
@@ -129,12 +139,12 @@ module _ {B P : Type 0} (shape : Shape) (fits : ℕ → B → Type 0) (done : B 
       subst (λ (ws : List ℕ). IsClosed shape fits done b.seats ws slots) (final.1.0.words ∙ final.2)
       (closed final.0 final.1.0 seat b final.1.1 all idle slots final.3 final.4)
 
-  -- where no seat holds anything or has claimed, the blocks are returned and no task is claimed
-  pub closes_unclaimed : (words copied : List ℕ) (slots : List (Option B)) (blocks : List B) (seat : ℕ) (b : Bundle P) → IsShape shape → length b.seats ≡ count → All IsUnused b.seats
+  -- where no seat holds anything, the blocks are returned, and just those tasks are claimed that a seat claimed
+  pub closes_returned : (words copied : List ℕ) (slots : List (Option B)) (blocks : List B) (seat : ℕ) (b : Bundle P) → IsShape shape → length b.seats ≡ count → All HoldsNone b.seats
       → table.Final (table.Seen (Shows shape fits done count) seat b) words slots → copied ≡ words → blocks ≡ blocks_in slots
-      → AreReturned shape fits done copied blocks × ((task : ℕ) → task < length shape.tasks → IsTaken shape copied task → ⊥)
-  closes_unclaimed words copied slots blocks seat b laws all unused final copied_is blocks_are =
-      let ended = closes words slots seat b all (λ v c. (All-contains IsUnused b.seats v unused c).empty) final in (
+      → AreReturned shape fits done copied blocks × ((task : ℕ) → task < length shape.tasks → (IsTaken shape copied task ↔ (0 < claims_of task b.seats)))
+  closes_returned words copied slots blocks seat b laws all empty final copied_is blocks_are =
+      let ended = closes words slots seat b all (λ v c. All-contains HoldsNone b.seats v empty c) final in (
         subst (AreReturned shape fits done copied) (sym blocks_are) (subst (λ (ws : List ℕ). AreReturned shape fits done ws (blocks_in slots)) (sym copied_is) (returned_blocks shape fits done b.seats words slots laws ended)),
-        λ task l taken. absurd (let some = ended.claims task l (subst (λ (ws : List ℕ). IsTaken shape ws task) copied_is taken) in let none = no_claims task b.seats unused in omega (arith, some, none)),
+        λ task l. subst (λ (ws : List ℕ). IsTaken shape ws task ↔ (0 < claims_of task b.seats)) (sym copied_is) (ended.claims task l),
       )

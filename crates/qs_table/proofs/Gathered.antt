@@ -1,22 +1,19 @@
 -- Seats that are dealt one by one, and gathered again.
-use Rattle.std.proofs.Common.{◌≡◌, ℕ, suc, ◌+◌, ◌-◌, ◌≤◌, ◌&&◌, ◌==◌, cond, Bool, false, List, [], ◌∷◌, ◌++◌, All, length, map, count_by, Option, Some, refl, sym, ap, ◌∙◌, arith}
+use Rattle.std.proofs.Common.{◌≡◌, ℕ, suc, ◌+◌, ◌-◌, ◌≤◌, List, [], ◌∷◌, ◌++◌, All, length, map, sum_by, Option, Some, sym, ap, ◌∙◌, arith}
 use Rattle.std.specs.List.{range_with_len}
 use Rattle.std.specs.Option.{option_to_list}
-use Rattle.std.proofs.lemmas.List.{length_push}
-use Rattle.std.proofs.lemmas.List.Elements.{All-cons, All-head, All-nil, All-tail, All-contains}
-use Rattle.lists.proofs.Sums.{sum_by-none}
+use Rattle.std.proofs.lemmas.List.{length-map, length_push}
+use Rattle.std.proofs.lemmas.List.Elements.{All-cons, All-head, All-nil, All-tail}
+use Rattle.std.proofs.lemmas.List.Sums.{sum_by-cons, sum_by_push}
+use mathlib.Core.List.{map-append}
 use Rattle.atomic_table.specs.Table.{Me}
-use Rattle.qs_core.specs.declared.event.Note.{Note}
-use Rattle.qs_core.specs.declared.event.StepKind.{StepKind}
-use Rattle.qs_core.specs.declared.event.StepKind.TheVariants as Kind
 use Rattle.atomic_table.specs.declared.shared.Seat.{Seat}
 use Rattle.qs_table.specs.declared.view.Bundle.{Bundle}
 use Rattle.qs_table.specs.declared.view.SeatView.{SeatView}
-use Rattle.qs_table.specs.Notes.{AreOnCells, IsCellNote, IsOnCell, claims, claims_of, is_claim}
-use Rattle.qs_table.specs.Seats.{IsNewSeat, TableView}
+use Rattle.qs_table.specs.Seats.{IsNewSeat, TableView, TokenView, views_of}
 use Rattle.qs_table.specs.Views.{all_seats, alone, fresh_seat}
 use Rattle.qs_table.specs.inner.Plays.{first_alone, seat_in, without_first}
-use Rattle.qs_table.specs.inner.Tokens.{IsUnused}
+use Rattle.qs_table.proofs.Elems.{length_is_sum}
 
 module _ {X : Type 0} where
   -- a list that was popped
@@ -84,18 +81,29 @@ dealt_is_new table seat place same e = record {
   fresh = ap seat_in (fresh_at seat.me table.plan place e);
 }
 
--- notes of steps on cells claim no task
-no_claim_kind : (kind : StepKind) → IsOnCell kind → claims kind ≡ false
-no_claim_kind Kind.Lock on = refl
-no_claim_kind Kind.Raise on = refl
-no_claim_kind Kind.Lower on = refl
-no_claim_kind Kind.Unlock on = refl
-no_claim_kind (_) on = absurd on
+-- a sum over the seats of tokens, of which the last was popped
+sum_popped : {P : Type 0} (f : SeatView → ℕ) (all rest : List (TokenView P)) (last : TokenView P) → all ≡ rest ++ last ∷ [] → sum_by f (views_of all) ≡ sum_by f (views_of rest) + f last.view
+sum_popped f all rest last is =
+    ap (λ (ts : List (TokenView _)). sum_by f (views_of ts)) is
+    ∙ ap (sum_by f) (map-append (λ (t : TokenView _). t.view) rest (last ∷ []))
+    ∙ sum_by_push f (views_of rest) last.view
 
-none_claims : (task : ℕ) (notes : List Note) → AreOnCells notes → count_by (is_claim task) notes ≡ 0
-none_claims task notes on = sum_by-none (λ (n : Note). cond {A = ℕ} (is_claim task n) 1 0) notes (λ n c.
-    ap (λ (b : Bool). cond {A = ℕ} (b && ((n.cell == task) && (n.seen == 0))) 1 0) (no_claim_kind n.kind (All-contains IsCellNote notes n on c)))
+-- the last one is taken first, and then one more
+pub first_gathered : {P : Type 0} (f : SeatView → ℕ) (all rest : List (TokenView P)) (last : TokenView P) (seats : List SeatView) → all ≡ rest ++ last ∷ [] → seats ≡ last.view ∷ []
+    → sum_by f seats + sum_by f (views_of rest) ≡ sum_by f (views_of all)
+first_gathered f all rest last seats is one =
+    let s = ap (sum_by f) one ∙ sum_by-cons f last.view [] in
+    let r = sum_popped f all rest last is in
+    omega (arith, s, r)
 
--- so do seats that hold nothing
-pub no_claims : (task : ℕ) (known : List SeatView) → All IsUnused known → claims_of task known ≡ 0
-no_claims task known each = sum_by-none (λ (v : SeatView). count_by (is_claim task) v.notes) known (λ v c. none_claims task v.notes (All-contains IsUnused known v each c).on_cells)
+pub more_gathered : {P : Type 0} (f : SeatView → ℕ) (total : ℕ) (all rest : List (TokenView P)) (last : TokenView P) (seats seats' : List SeatView) → all ≡ rest ++ last ∷ [] → seats' ≡ seats ++ last.view ∷ []
+    → sum_by f seats + sum_by f (views_of all) ≡ total → sum_by f seats' + sum_by f (views_of rest) ≡ total
+more_gathered f total all rest last seats seats' is both was =
+    let s = ap (sum_by f) both ∙ sum_by_push f seats last.view in
+    let r = sum_popped f all rest last is in
+    omega (arith, s, r, was)
+
+-- as many views as tokens
+pub many_views : {P : Type 0} (tokens : List (TokenView P)) (seats : List SeatView) → ((f : SeatView → ℕ) → sum_by f seats ≡ sum_by f (views_of tokens)) → length seats ≡ length tokens
+many_views tokens seats same =
+    length_is_sum seats ∙ same (λ (v : SeatView). 1) ∙ sym (length_is_sum (views_of tokens)) ∙ length-map tokens (λ (t : TokenView _). t.view)

@@ -44,13 +44,14 @@ locks_push notes note = filter_map-append (λ (n : Note). lock_of n.kind n.cell)
 
 -- steps after steps
 pub stepped_none : (v : SeatView) → Stepped v v v.holds
-stepped_none v = record { place = refl; holds = refl; fetched = refl; notes = grew_none v.notes }
+stepped_none v = record { place = refl; holds = refl; fetched = refl; hand = refl; notes = grew_none v.notes }
 
 pub stepped_twice : (a b c : SeatView) (held last : View) → Stepped a b held → Stepped b c last → Stepped a c last
 stepped_twice a b c held last s t = record {
   place = t.place ∙ s.place;
   holds = t.holds;
   fetched = t.fetched ∙ s.fetched;
+  hand = t.hand ∙ s.hand;
   notes = grew_twice a.notes b.notes c.notes s.notes t.notes;
 }
 
@@ -70,6 +71,7 @@ stepped_more shape first now after step seen held cell s made =
       place = s.place;
       holds = refl;
       fetched = s.fetched;
+      hand = s.hand;
       notes = grew_more first.notes now.notes (noted shape now step seen) (on_cell shape now step seen cell) s.notes;
     })
 

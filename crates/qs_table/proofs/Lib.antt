@@ -2,6 +2,9 @@ pub mod Elems
 pub mod Bundles
 pub mod Acts
 pub mod Kept
+pub mod LeafSteps
+pub mod TaskSteps
+pub mod Finishes
 pub mod Dealt
 pub mod Opened
 pub mod Ended
@@ -12,3 +15,4 @@ pub mod Upward
 pub mod Sitting
 pub mod Gathered
 pub mod EmptySeats
+pub mod Worked

@@ -85,10 +85,10 @@ module _ (count : ℕ) where
                     block = h.block;
                     at = at_map some slots leaf (Some h.block) h.at;
                     fitting = h.good.fitting;
-                    tasks = λ task. (λ c. absurd (h.good.none_done task c), λ d. absurd (none task d.claimed));
+                    tasks = λ task. (λ c. absurd (Contains-nil task (subst (λ (ts : List ℕ). Contains ts task) h.good.none_done c)), λ d. absurd (none task d.claimed));
                   };
             };
-            outs = λ v c. subst (AreOut shape (opening shape count)) (sym (fresh_is v c).0) (record { leaves = refl; tasks = λ f d. absurd (Contains-nil f d) });
+            outs = λ v c. subst (AreOut shape (opening shape count) (map some slots)) (sym (fresh_is v c).0) (record { leaves = refl; tasks = λ f d. absurd (Contains-nil f d); empty = λ f d n. absurd (Contains-nil f d) });
             claims = record {
               one = λ task. let z = none_noted (is_claim task) in omega arith;
               claimed = λ task l. (λ some. absurd (let z = none_noted (is_claim task) in omega arith), λ c. absurd (none task c));
@@ -113,9 +113,13 @@ laid_out shape shape' id lines words same laws lines_are words_are many slots_ar
       room = room;
     })
 
+-- there are as many lines as cells
+pub cells_of_lines : (shape : Shape) (id : TableId) (lines : List (List ℕ)) (words : List ℕ) → IsLaidOut shape id lines words → length lines ≡ length shape.parents
+cells_of_lines shape id lines words laid = ap length laid.lines_are ∙ length-map-range_with_len (ancestors shape) 0 (length shape.parents)
+
 -- the word of its first task
 pub first_task_at : (shape shape' : Shape) (id : TableId) (lines : List (List ℕ)) (words : List ℕ) (cells slots : ℕ) → shape ≡ shape' → IsLaidOut shape id lines words → cells ≡ length lines → slots ≡ id.slots → 1 + cells + slots ≡ task_place shape' 0
 first_task_at shape shape' id lines words cells slots same laid cells_are slots_are =
-    let all = ap length laid.lines_are ∙ length-map-range_with_len (ancestors shape) 0 (length shape.parents) in
+    let all = cells_of_lines shape id lines words laid in
     let leaves = laid.slots_are in
     subst (λ (s : Shape). 1 + cells + slots ≡ task_place s 0) same (omega (arith, all, leaves))

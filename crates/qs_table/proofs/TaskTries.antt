@@ -15,7 +15,7 @@ use Rattle.qs_table.specs.Tries.{Gave, IsLegalBusy, Stepped, Tried, TriedInOrder
 use Rattle.qs_table.proofs.Given.{grew_twice, stepped_twice}
 
 -- an owned chain is complete
-owned_is_complete : (shape : Shape) (cell : ℕ) → IsComplete shape (owned_chain shape cell)
+pub owned_is_complete : (shape : Shape) (cell : ℕ) → IsComplete shape (owned_chain shape cell)
 owned_is_complete shape cell = record { all_raised = refl; free = refl; kept = refl }
 
 -- notes before and after a lawful cause

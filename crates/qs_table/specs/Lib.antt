@@ -2,6 +2,8 @@ pub mod Views
 pub mod Notes
 pub mod Rule
 pub mod Tries
+pub mod Leaves
+pub mod Claims
 pub mod Blocks
 pub mod Seats
 pub mod inner

@@ -1,5 +1,5 @@
 -- The rule of a table, which holds between any two steps of any seats: its words, the blocks at home and what the seats know show a sound state of the machine.
-use Rattle.std.specs.Prelude.{◌≡◌, ◌↔◌, ◌==◌, ℕ, ◌<◌, ◌≤◌, List, length, map, count_by, Contains, Option, Some}
+use Rattle.std.specs.Prelude.{◌≡◌, ◌≢◌, ◌↔◌, ◌==◌, ℕ, ◌<◌, ◌≤◌, List, length, map, count_by, Contains, Option, Some, None}
 use mathlib.Core.Option as maybe
 use mathlib.Core.Option.{some}
 use lib.ListN.{get_elem?}
@@ -20,13 +20,14 @@ pub record AreSeats (core : Core) (known : List SeatView) : Type 0 where
   pub all : length known ≡ length core.views
 
 -- just these tasks are done on the leaf
-abbrev pub AreDone : Shape → Core → List ℕ → ℕ → Type 0
-AreDone shape core tasks leaf = (task : ℕ) → (Contains tasks task ↔ IsDone shape core task leaf)
+abbrev pub AreDoneOn : Shape → Core → List ℕ → ℕ → Type 0
+AreDoneOn shape core tasks leaf = (task : ℕ) → (Contains tasks task ↔ IsDone shape core task leaf)
 
--- what a seat has noted of the leaves that it fetched: they are just those that it has out, in order, and of each the tasks are those done there
-pub record AreOut (shape : Shape) (core : Core) (v : SeatView) : Type 0 where
+-- what a seat has noted of the leaves that it fetched: they are just those that it has out, in order, and of each the tasks are those done there; but for the one at hand their slots are in the table, and empty
+pub record AreOut {B : Type 0} (shape : Shape) (core : Core) (slots : List (maybe.Option (Option B))) (v : SeatView) : Type 0 where
   pub leaves : map (λ (f : Fetched). f.leaf) v.fetched ≡ v.holds.out
-  pub tasks : (f : Fetched) → Contains v.fetched f → AreDone shape core f.done f.leaf
+  pub tasks : (f : Fetched) → Contains v.fetched f → AreDoneOn shape core f.done f.leaf
+  pub empty : (f : Fetched) → Contains v.fetched f → v.hand ≢ Some f.leaf → get_elem? slots f.leaf ≡ some (some None)
 
 -- for each task at most one note claims it, and one does just where it is claimed
 pub record AreClaims (shape : Shape) (core : Core) (known : List SeatView) : Type 0 where
@@ -44,7 +45,7 @@ module _ {B : Type 0} (shape : Shape) (fits : ℕ → B → Type 0) (done : B �
     pub block : B
     pub at : get_elem? slots leaf ≡ some (some (Some block))
     pub fitting : fits leaf block
-    pub tasks : AreDone shape core (done block) leaf
+    pub tasks : AreDoneOn shape core (done block) leaf
 
   -- there is a slot for each leaf, and each leaf that no seat has out has its block at home
   pub record AreHomes (core : Core) (slots : List (maybe.Option (Option B))) : Type 0 where
@@ -56,7 +57,7 @@ module _ {B : Type 0} (shape : Shape) (fits : ℕ → B → Type 0) (done : B �
     pub sound : IsSound shape core
     pub seats : AreSeats core known
     pub homes : AreHomes core slots
-    pub outs : (v : SeatView) → Contains known v → AreOut shape core v
+    pub outs : (v : SeatView) → Contains known v → AreOut shape core slots v
     pub claims : AreClaims shape core known
     pub releases : AreReleases shape core known
 

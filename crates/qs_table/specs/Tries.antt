@@ -31,6 +31,7 @@ pub record Stepped (before after : SeatView) (held : View) : Type 0 where
   pub place : after.place ≡ before.place
   pub holds : after.holds ≡ held
   pub fetched : after.fetched ≡ before.fetched
+  pub hand : after.hand ≡ before.hand
   pub notes : Grew before.notes after.notes
 
 -- a note shows why a try of a cell was turned back: the cell's word wasn't 0, or the word of a proper ancestor was odd

@@ -10,6 +10,17 @@ pub enum Try {
     Busy { cell: u32, seen: u64 },
 }
 
+/// What a claim answers.
+#[derive(Clone, Copy, Debug, PartialEq, Eq)]
+pub enum Claim {
+    /// The task's word was 0: it is claimed now, and runs.
+    Claimed,
+    /// The task's word was the number of the edges into it that aren't released.
+    Waiting { seen: u64 },
+    /// The task was claimed before.
+    Taken,
+}
+
 /// There was no memory: the blocks come back.
 #[derive(Drop)]
 pub struct NoRoom<B> {

@@ -13,7 +13,7 @@ mod table;
 mod threads;
 mod view;
 
-pub use answers::{NoRoom, Try};
+pub use answers::{Claim, NoRoom, Try};
 pub use closed::Closed;
 pub use rule::{About, LockRule};
 pub use seat::QsSeat;

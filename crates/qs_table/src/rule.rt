@@ -106,3 +106,69 @@ impl<W: Work> Play<Option<W::Block>, Bundle<W::Plan>> for Looks<W> {
 
     ghost then = { Met W.shape };
 }
+
+/// A fetch.
+pub(crate) struct Fetches<W> {
+    work: PhantomData<W>,
+}
+
+impl<W: Work> Play<Option<W::Block>, Bundle<W::Plan>> for Fetches<W> {
+    ghost use Rattle.qs_table.specs.inner.Plays.{Took};
+
+    ghost then = { λ st me found after. Took W.shape st me found after W.fits W.done };
+}
+
+/// A look at which the slot at hand goes back into the table.
+pub(crate) struct LaysDown<W> {
+    work: PhantomData<W>,
+}
+
+impl<W: Work> Play<Option<W::Block>, Bundle<W::Plan>> for LaysDown<W> {
+    ghost use Rattle.qs_table.specs.inner.Plays.{LaidDown};
+
+    ghost then = { LaidDown W.shape };
+}
+
+/// A look at which the slot of a leaf that is out comes to hand.
+pub(crate) struct TakesUp<W> {
+    work: PhantomData<W>,
+}
+
+impl<W: Work> Play<Option<W::Block>, Bundle<W::Plan>> for TakesUp<W> {
+    ghost use Rattle.qs_table.specs.inner.Plays.{TakenUp};
+
+    ghost then = { TakenUp W.shape };
+}
+
+/// A return.
+pub(crate) struct Returns<W> {
+    work: PhantomData<W>,
+}
+
+impl<W: Work> Play<Option<W::Block>, Bundle<W::Plan>> for Returns<W> {
+    ghost use Rattle.qs_table.specs.inner.Plays.{Brought};
+
+    ghost then = { Brought W.shape };
+}
+
+/// A claim.
+pub(crate) struct Claims<W> {
+    work: PhantomData<W>,
+}
+
+impl<W: Work> Play<Option<W::Block>, Bundle<W::Plan>> for Claims<W> {
+    ghost use Rattle.qs_table.specs.inner.Plays.{Asked};
+
+    ghost then = { Asked W.shape };
+}
+
+/// A release.
+pub(crate) struct Releases<W> {
+    work: PhantomData<W>,
+}
+
+impl<W: Work> Play<Option<W::Block>, Bundle<W::Plan>> for Releases<W> {
+    ghost use Rattle.qs_table.specs.inner.Plays.{Released};
+
+    ghost then = { Released W.shape };
+}

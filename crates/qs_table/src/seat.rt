@@ -4,7 +4,7 @@ ghost use Rattle.qs_core.specs.Steps.{rest};
 ghost use Rattle.qs_table.specs.Seats.{IsIdle};
 ghost use Rattle.qs_table.specs.Views.{alone, fresh_seat};
 ghost use Rattle.qs_table.specs.inner.Plays.{seat_in};
-ghost use Rattle.qs_table.specs.inner.Tokens.{IsUnused, cells_of};
+ghost use Rattle.qs_table.specs.inner.Tokens.{HoldsNone, cells_of};
 
 use crate::rule::{About, LockRule};
 use crate::view::Bundle;
@@ -73,6 +73,8 @@ impl Cells {
 pub struct QsSeat<W: Work> {
     pub(crate) seat: LockSeat<W>,
     pub(crate) cells: Cells,
+    // The task that runs, where one does.
+    pub(crate) task: u32,
 }
 
 impl<W: Work> Model for QsSeat<W> {
@@ -84,7 +86,7 @@ impl<W: Work> Model for QsSeat<W> {
 
     ghost view = { λ s. record { id = s.seat.table_id; plan = s.seat.me.0.plan; view = seat_in s.seat.me.0 } };
 
-    ghost invariant = { λ s. IsToken W.shape s.seat.me s.cells };
+    ghost invariant = { λ s. IsToken W.shape s.seat.me s.cells s.task };
 }
 
 impl<W: Work> QsSeat<W> {
@@ -97,6 +99,7 @@ impl<W: Work> QsSeat<W> {
         QsSeat {
             seat,
             cells: Cells::Empty,
+            task: 0,
         }
     }
 
@@ -113,9 +116,13 @@ impl<W: Work> QsSeat<W> {
         requires idle { IsIdle self.view.holds }
         ensures table { result.table_id ≡ self.id }
         ensures alone { (plan : W.Plan) × (self.plan ≡ Some plan) × (result.me ≡ (alone plan self.view, [])) }
-        ensures unused { IsUnused self.view }
+        ensures empty { HoldsNone self.view }
     {
-        let QsSeat { seat, cells: _ } = self;
+        let QsSeat {
+            seat,
+            cells: _,
+            task: _,
+        } = self;
         seat
     }
 }

@@ -1,13 +1,17 @@
 //! The table of locks.
-ghost use Rattle.std.specs.Prelude.{◌≡◌, ◌<◌, ◌≤◌, ℕ, [], length, map, vec_capacity, All, IfErr, IfOk};
+ghost use Rattle.std.specs.Prelude.{◌≡◌, ◌<◌, ◌≤◌, ◌↔◌, ℕ, [], length, map, vec_capacity, All, IfErr, IfOk};
 ghost use Rattle.std.specs.List.{range_with_len};
 ghost use Rattle.qs_core.specs.Core.{opening};
 ghost use Rattle.qs_core.specs.Shape.{ancestors};
-ghost use Rattle.qs_table.specs.Blocks.{AreFresh, AreReturned, IsTaken};
-ghost use Rattle.qs_table.specs.Seats.{IsIdleSeat, IsNewSeat};
+ghost use Rattle.qs_core.specs.Blocks.{AreFresh};
+ghost use Rattle.qs_table.specs.Blocks.{AreReturned, IsTaken};
+ghost use Rattle.qs_table.specs.Notes.{claims_of};
+ghost use Rattle.qs_table.specs.Seats.{IsIdleSeat, IsNewSeat, views_of};
 
+mod leaves;
 mod seats;
 mod steps;
+mod tasks;
 #[cfg(test)]
 mod tests;
 mod tries;
@@ -92,7 +96,7 @@ impl<W: Work> ResTable<W> {
         room: Room<W>,
         seats: u32,
     ) -> Result<(ResTable<W>, Vec<QsSeat<W>>), NoRoom<W::Block>>
-        requires blocks { AreFresh (W.shape (W.plan work.now)) (W.fits (W.plan work.now)) W.done blocks.items }
+        requires fresh { AreFresh (W.shape (W.plan work.now)) (W.fits (W.plan work.now)) W.done blocks.items }
         requires seats { 0 < seats }
         requires lines { room.lines ≡ map (ancestors (W.shape (W.plan work.now))) (range_with_len 0 (length (W.shape (W.plan work.now)).parents)) }
         requires words { room.words.items ≡ (opening (W.shape (W.plan work.now)) 0).words }
@@ -146,7 +150,7 @@ impl<W: Work> ResTable<W> {
         requires all { length seats.items ≡ self.seats }
         ensures shape { result.shape ≡ W.shape self.plan }
         ensures returned { AreReturned (W.shape self.plan) (W.fits self.plan) W.done result.words result.blocks }
-        ensures none_claimed { (task : ℕ) → task < length (W.shape self.plan).tasks → IsTaken (W.shape self.plan) result.words task → ⊥ }
+        ensures claimed { (task : ℕ) → task < length (W.shape self.plan).tasks → (IsTaken (W.shape self.plan) result.words task ↔ (0 < claims_of task (views_of seats.items))) }
     {
         let whole = self.gather(seats);
         let about = Snapshot::of(&self);

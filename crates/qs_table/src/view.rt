@@ -16,8 +16,10 @@ pub struct SeatView {
     pub holds: Seat,
     /// The notes of all its steps.
     pub notes: LinkedList<Note>,
-    /// The leaves that it has out.
+    /// The leaves that it has out, the newest first.
     pub fetched: LinkedList<Fetched>,
+    /// The leaf whose slot it has at hand: none between calls.
+    pub hand: Option<u32>,
 }
 
 /// Seats of one table: one in each token, and several while they are dealt or gathered.

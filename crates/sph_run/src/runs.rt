@@ -17,7 +17,7 @@ use sph_num::Particle;
 use sph_plain::{PlainSteps, start};
 use sph_report::summary_line;
 use sph_snap::{END, put_snapshot};
-use sph_step::step;
+use sph_step::GraphSteps;
 use std::alloc::{AllocError, Global};
 use std::thread::Threads;
 
@@ -39,11 +39,14 @@ pub fn run<R: Threads + Sync, O: Sink, G: Gate>(
     ensures write_fault_output { result ≡ RunEnd.WriteFault → AppendsPrefix (O.held out.old) (O.held out.new) (output_in form deck.now) }
     ensures memory { result ≡ RunEnd.Memory → AppendsPiecesIn form deck.now (O.held out.old) (O.held out.new) }
 {
+    let Ok(steps) = GraphSteps::new(alloc) else {
+        return RunEnd::Memory;
+    };
     let step = |particles: &mut Vec<Particle>, t: u32| -> Result<(), AllocError>
         requires workers { (1 ≤ workers) × (workers ≤ 64) }
         requires tick { IsStepTick deck.now.params t }
         requires before { particles.old.items ≡ before deck.now t }
-    { step(rt, alloc, deck, particles, t, workers, gate) };
+    { steps.step(rt, alloc, deck, particles, t, workers, gate) };
     run_by(alloc, deck, form, step, out)
 }
 

@@ -1,5 +1,5 @@
 -- From what the work asks of the blocks of a task, and leaves of them, to what the scene says of its line, and back.
-use Rattle.std.proofs.Common.{◌≡◌, ℕ, ◌+◌, ◌-◌, ◌<◌, List, [], ◌∷◌, length, map, get_or, refl, sym, subst, ap, ◌∙◌, add-zero, arith}
+use Rattle.std.proofs.Common.{◌≡◌, ℕ, ◌+◌, ◌-◌, ◌<◌, List, [], ◌∷◌, length, get_or, refl, sym, subst, ap, ◌∙◌, add-zero, arith}
 use Rattle.std.specs.Prelude.{Option, Some, None, option_map, slice_set, unwrap_or}
 use Rattle.std.specs.List.{range_with_len}
 use Rattle.std.proofs.lemmas.List.{get_or-set_same, get_or_default, length-map, length-set}
@@ -10,7 +10,7 @@ use Rattle.cell_block.specs.declared.block.Block.{Block}
 use Rattle.cell_block.specs.declared.scene.Scene.{Scene}
 use Rattle.cell_block.specs.declared.scene.TaskLine.{TaskLine}
 use Rattle.cell_block.specs.Blocks.{Agrees, AreAdded, AreReady, IsAdded, IsReady, done_of}
-use Rattle.cell_block.specs.Scene.{IsGoodScene, IsLinePath, LinePrecedes, leaf_line, line_at}
+use Rattle.cell_block.specs.Scene.{IsGoodScene, IsLinePath, leaf_line, line_at}
 use Rattle.cell_kern.specs.Tasks.{second_of}
 use Rattle.cell_kick.proofs.Added.{IsOfLeaves}
 use Rattle.cell_block.proofs.Order.{on_leaf, task_part}

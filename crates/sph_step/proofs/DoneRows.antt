@@ -1,8 +1,8 @@
 -- Once every task that touches a leaf is done there, the leaf's block has of each member what the step makes of it.
-use Rattle.std.proofs.Common.{◌≡◌, ℕ, ◌+◌, ◌<◌, ◌&&◌, Bool, true, false, if◌then◌else◌, List, length, map, get_or, Contains, inl, inr, refl, ap, sym, ◌∙◌}
+use Rattle.std.proofs.Common.{◌≡◌, ℕ, ◌<◌, ◌&&◌, Bool, true, false, if◌then◌else◌, List, length, get_or, Contains, refl, ap, sym, ◌∙◌}
 use Rattle.std.specs.Prelude.{ℤ}
 use Rattle.std.specs.List.{list_any}
-use Rattle.std.proofs.lemmas.List.{get_or-map, get_or_default, length-map}
+use Rattle.std.proofs.lemmas.List.{get_or-map, length-map}
 use Rattle.lists.proofs.Elements.{Contains-filter, Contains-map}
 use Rattle.lists.proofs.Ranges.{Contains-numbers}
 use Rattle.sph_num.specs.declared.kind.Kind.{Kind}

@@ -19,17 +19,17 @@ use Rattle.cell_tree.specs.declared.tree.Span.{Span}
 use Rattle.cell_tree.specs.Spans.{IsOtherCell}
 use Rattle.cell_tree.specs.Tree.{Made, cells_of, made_of}
 use Rattle.pair_cover.specs.Looks.{spans_of}
-use Rattle.qs_run.specs.Blocks.{AreFresh}
+use Rattle.qs_core.specs.Blocks.{AreFresh}
 use Rattle.task_graph.specs.declared.task.Task.{Task}
 use Rattle.task_graph.specs.Graph.{Plan, WaitAtLeaves, graph_of}
 use Rattle.task_graph.specs.Meeting.{MeetOnce}
 use Rattle.task_graph.specs.Tasks.{IsOnSpan}
 use Rattle.task_weight.specs.Edges.{AreForward, AreRising}
 use Rattle.sph_step.specs.declared.stage.StagePlan.{StagePlan}
-use Rattle.sph_step.specs.Made.{IsStageOf, TellsCells, dues_at, leaves_in, limits_of, made_at, spans_at}
-use Rattle.sph_step.specs.Stage.{fits_in, line_of, shape_of}
+use Rattle.sph_step.specs.Made.{IsParentOf, IsRangeOf, IsStageOf, TellsCells, dues_at, leaves_in, limits_of, made_at, spans_at}
+use Rattle.sph_step.specs.Stage.{fits_in, line_in, line_of, range_in, shape_of}
 use Rattle.sph_step.specs.inner.Graphs.{IsGraphOn}
-use Rattle.sph_step.specs.inner.Told.{AreFilled, AreParents, AreRanges, IsAmong, IsAmongSome, IsFreshAt, IsParentOf, IsRangeOf, line_in, range_in}
+use Rattle.sph_step.specs.inner.Told.{AreFilled, AreParents, AreRanges, IsAmong, IsAmongSome, IsFreshAt}
 
 -- a task on a span of the tree is on two of so many cells
 other_among : (made : Made) (first cells : ℕ) (second : Option ℕ) → length (cells_of made) ≡ cells → IsOtherCell made first second → IsAmongSome cells second

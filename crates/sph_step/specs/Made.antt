@@ -1,5 +1,5 @@
 -- What a step is made of: the tree of the places at its tick, the cover of the tree, and the graph of tasks on it.
-use Rattle.std.specs.Prelude.{◌≡◌, ℕ, ◌<◌, Bool, false, List, length, map, slice_get, Option, None, unwrap_or, MatchOption}
+use Rattle.std.specs.Prelude.{◌≡◌, ℕ, ◌<◌, Bool, false, List, length, map, Option, MatchOption}
 use Rattle.sph_num.specs.declared.particle.Bounds.{Bounds}
 use Rattle.sph_num.specs.declared.particle.Params.{Params}
 use Rattle.sph_num.specs.declared.particle.Particle.{Particle}
@@ -35,12 +35,20 @@ spans_at params t list = spans_of (made_at params t list) (dues_at t list) (limi
 abbrev pub leaves_in : Made → List (List ℕ)
 leaves_in made = map (λ cell. (cell_at made cell).members) (leaf_cells made)
 
+-- it is the cell's parent, or the cell is the whole box and has none
+abbrev pub IsParentOf : Made → ℕ → Option ℕ → Type 0
+IsParentOf made cell parent = MatchOption parent (cell ≡ 0) (λ above. IsParent made above cell)
+
+-- the range has just the leaves below the cell
+abbrev pub IsRangeOf : Made → ℕ → ℕ × ℕ → Type 0
+IsRangeOf made cell range = AreLeavesBelow made cell range.0 range.1
+
 -- the work tells of each cell its parent and the leaves below it
 pub record TellsCells (made : Made) (plan : StagePlan) : Type 0 where
   pub one_parent_each : length plan.parents.items ≡ length (cells_of made)
   pub one_range_each : length plan.ranges.items ≡ length (cells_of made)
-  pub parents : (cell : ℕ) → cell < length (cells_of made) → MatchOption (parent_of (shape_of plan) cell) (cell ≡ 0) (λ parent. IsParent made parent cell)
-  pub ranges : (cell : ℕ) → cell < length (cells_of made) → AreLeavesBelow made cell (range_of (shape_of plan) cell).0 (range_of (shape_of plan) cell).1
+  pub parents : (cell : ℕ) → cell < length (cells_of made) → IsParentOf made cell (parent_of (shape_of plan) cell)
+  pub ranges : (cell : ℕ) → cell < length (cells_of made) → IsRangeOf made cell (range_of (shape_of plan) cell)
 
 -- the scene of a list at a tick, with the tasks of a plan
 abbrev pub scene_of : Params → Bounds → ℕ → List Particle → StagePlan → Scene

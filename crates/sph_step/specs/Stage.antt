@@ -1,11 +1,11 @@
 -- A step as a work: its cells and tasks, when a block fits, and what every stage keeps.
-use Rattle.std.specs.Prelude.{◌≡◌, ℕ, ◌<◌, List, length, map, slice_index, option_map}
+use Rattle.std.specs.Prelude.{◌≡◌, ℕ, ◌<◌, List, length, map, slice_get, slice_index, option_map, unwrap_or}
 use Rattle.std.specs.List.{range_with_len}
 use Rattle.cell_block.specs.declared.block.Block.{Block}
 use Rattle.cell_block.specs.declared.scene.TaskLine.{TaskLine}
 use Rattle.cell_block.specs.Blocks.{Agrees}
 use Rattle.cell_block.specs.Scene.{IsGoodScene, IsLineEdge}
-use Rattle.qs_core.specs.Shape.{IsEdge, IsShape, Shape, TaskShape, edges_into, range_of}
+use Rattle.qs_core.specs.Shape.{IsEdge, IsShape, Shape, TaskShape, edges_into}
 use Rattle.task_graph.specs.declared.task.Task.{Task}
 use Rattle.task_graph.specs.Graph.{Plan, task_at}
 use Rattle.task_weight.specs.Paths.{after_of}
@@ -33,13 +33,15 @@ shape_of plan = record {
 abbrev pub fits_in : StagePlan → ℕ → Block → Type 0
 fits_in plan leaf block = Agrees plan.scene leaf block
 
--- a task by the leaves below its cells
+-- a task by the leaves below its cells: by these ranges, one a cell, and by the plan's
+abbrev pub range_in : List (ℕ × ℕ) → ℕ → ℕ × ℕ
+range_in ranges cell = unwrap_or (slice_get ranges cell) (0, 0)
+
+abbrev pub line_in : List (ℕ × ℕ) → Task → TaskLine
+line_in ranges task = record { kind = task.kind; first = range_in ranges task.first; second = option_map (range_in ranges) task.second }
+
 abbrev pub line_of : StagePlan → Task → TaskLine
-line_of plan task = record {
-  kind = task.kind;
-  first = range_of (shape_of plan) task.first;
-  second = option_map (range_of (shape_of plan)) task.second;
-}
+line_of plan task = line_in plan.ranges.items task
 
 -- what every stage keeps: its tasks are those of a good scene, and wait for one another as the scene's do
 pub record IsStage (plan : StagePlan) : Type 0 where

@@ -15,4 +15,4 @@ mod tests;
 pub use gathering::gather;
 pub use preparing::prepare;
 pub use stage::{Stage, StagePlan};
-pub use stepping::step;
+pub use stepping::{GraphSteps, step};

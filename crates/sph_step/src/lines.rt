@@ -1,7 +1,8 @@
 //! The tasks of a graph by the leaves below their cells.
 ghost use Rattle.std.specs.Prelude.{◌≡◌, ◌<◌, All, IfOk, length, map, option_map};
 ghost use Rattle.task_graph.specs.Graph.{task_at};
-ghost use Rattle.sph_step.specs.inner.Told.{IsAmong, IsAmongSome, line_in, range_in};
+ghost use Rattle.sph_step.specs.Stage.{line_in, range_in};
+ghost use Rattle.sph_step.specs.inner.Told.{IsAmong, IsAmongSome};
 
 use cell_block::{LineList, TaskLine};
 use std::alloc::{AllocError, Global};

@@ -3,7 +3,7 @@ ghost use Rattle.std.specs.Prelude.{◌≡◌, All, IfOk, OnOk, false, map};
 ghost use Rattle.cell_block.specs.Blocks.{done_of};
 ghost use Rattle.cell_tree.specs.Spans.{IsSpan};
 ghost use Rattle.pair_cover.specs.Covering.{CoversMoved};
-ghost use Rattle.qs_run.specs.Blocks.{AreFresh};
+ghost use Rattle.qs_core.specs.Blocks.{AreFresh};
 ghost use Rattle.sph_bins.specs.Bins.{IsStepTick};
 ghost use Rattle.sph_bins.specs.InBounds.{InBounds};
 ghost use Rattle.sph_bins.specs.Kick.{place_at};
@@ -17,7 +17,7 @@ ghost use Rattle.task_graph.specs.Graph.{graph_of};
 use crate::cells::{leaves_of, parents_of, ranges_of};
 use crate::lines::lines_of;
 use crate::stage::{Stage, StagePlan};
-use cell_block::{Block, Scene};
+use cell_block::{Block, Scene, tasks_by_leaf};
 use cell_tree::Tree;
 use pair_cover::{Limits, cover};
 use qs_core::Work;
@@ -25,6 +25,7 @@ use sph_bins::due;
 use sph_deck::{Deck, bounds_of};
 use sph_num::{Particle, ParticleList, Tables, position};
 use std::alloc::{AllocError, Global};
+use std::sync::Arc;
 use task_graph::Graph;
 
 /// The stage of the step at tick `t`, on the tree of the particles' places there, and a block for each of its
@@ -38,10 +39,29 @@ pub fn prepare(
     requires tick { IsStepTick deck.now.params t }
     requires before { particles.now ≡ before deck.now t }
     ensures stage { IfOk result (λ r. IsStageOf deck.now.params (bounds_of deck.now.particles) t particles.now r.0) }
+    ensures kept { IfOk result (λ r. IsStage r.0) }
+    ensures blocks { IfOk result (λ r. AreFresh (shape_of r.0) (fits_in r.0) done_of r.1.items) }
+{
+    let tables = Arc::new(alloc, Tables::new(alloc)?)?;
+    prepare_with(alloc, tables, deck, particles, t)
+}
+
+/// As `prepare`, with the kernel's tables at hand.
+pub(crate) fn prepare_with(
+    alloc: Global,
+    tables: Arc<Tables, Global>,
+    deck: &Deck,
+    particles: &[Particle],
+    t: u32,
+) -> Result<(Stage, Vec<Block>), AllocError>
+    requires tick { IsStepTick deck.now.params t }
+    requires before { particles.now ≡ before deck.now t }
+    ensures stage { IfOk result (λ r. IsStageOf deck.now.params (bounds_of deck.now.particles) t particles.now r.0) }
+    ensures kept { IfOk result (λ r. IsStage r.0) }
     ensures blocks { IfOk result (λ r. AreFresh (shape_of r.0) (fits_in r.0) done_of r.1.items) }
 {
     let plan = plan_of(alloc, deck, particles, t)?;
-    let stage = Stage::new(plan, Tables::new(alloc)?);
+    let stage = Stage::new(plan, tables);
     let blocks = blocks_of(alloc, &stage)?;
     Ok((stage, blocks))
 }
@@ -50,9 +70,12 @@ pub fn prepare(
 fn blocks_of(alloc: Global, stage: &Stage) -> Result<Vec<Block>, AllocError>
     ensures { IfOk result (λ blocks. AreFresh (shape_of stage.now) (fits_in stage.now) done_of blocks.items) }
 {
+    let scene = stage.scene();
+    let tasks = tasks_by_leaf(alloc, scene)?;
     let mut blocks = Vec::with_capacity(alloc, stage.leaves() as usize)?;
     for leaf in 0..stage.leaves() {
-        blocks.push(Block::make(alloc, stage.scene(), leaf)?)?;
+        let at = tasks[leaf as usize].as_slice();
+        blocks.push(Block::with_tasks(alloc, scene, leaf, at)?)?;
     }
     Ok(blocks)
 }

@@ -8,7 +8,9 @@ use crate::apply::{apply_on_one, apply_on_two};
 use cell_block::{Block, Scene};
 use qs_core::Work;
 use sph_num::Tables;
+use std::alloc::Global;
 use std::marker::Model;
+use std::sync::Arc;
 use task_graph::Graph;
 
 /// What all answers of a stage follow from, as plain data.
@@ -24,11 +26,12 @@ pub struct StagePlan {
     pub graph: Graph,
 }
 
-/// The tasks of a step on the blocks of its leaves. It keeps its own copies of what it answers.
+/// The tasks of a step on the blocks of its leaves. It keeps its own copies of what it answers, and shares the
+/// kernel's tables, which its tasks read.
 #[derive(Debug, Drop)]
 pub struct Stage {
     plan: StagePlan,
-    tables: Tables,
+    tables: Arc<Tables, Global>,
 }
 
 impl Model for Stage {
@@ -43,8 +46,8 @@ impl Model for Stage {
 }
 
 impl Stage {
-    /// The stage of a plan, with the kernel's tables that its tasks read.
-    pub(crate) fn new(plan: StagePlan, tables: Tables) -> Stage
+    /// The stage of a plan, with the kernel's tables.
+    pub(crate) fn new(plan: StagePlan, tables: Arc<Tables, Global>) -> Stage
         requires { IsStage plan }
         ensures { result ≡ plan }
     {

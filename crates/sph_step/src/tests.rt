@@ -1,4 +1,4 @@
-//! A pair of particles, prepared and stepped.
+//! Pairs of particles, prepared and stepped.
 use crate::{prepare, step};
 use qs_core::Work;
 use sph_deck::{Deck, read_deck};
@@ -8,42 +8,47 @@ use sph_plain::start;
 use std::alloc::Global;
 use std::test::Fail;
 
-/// One step of two particles at rest, half a smoothing length apart, but for how many may share a leaf.
-const PAIR: &str =
-    "ticks = 0\nevery = 1\nbin_min = 0\nbin_max = 0\nsound = 65536\nshift = 20\naccuracy = 0\npairs = 4096\nslack = 0\n[[particle]]\nmass = 1024\nh = 1024\nx = 1000\ny = 0\nz = 0\npx = 0\npy = 0\npz = 0\n[[particle]]\nmass = 1024\nh = 1024\nx = 1512\ny = 0\nz = 0\npx = 0\npy = 0\npz = 0\n";
+/// One step, but for how many particles may share a leaf.
+const TOP: &str =
+    "ticks = 0\nevery = 1\nbin_min = 0\nbin_max = 0\nsound = 65536\nshift = 20\naccuracy = 0\npairs = 4096\nslack = 0\n";
 
-/// What the step leaves of the particle on the left, and of the one on the right.
-const LEFT: Particle = Particle {
-    mass: 1024,
-    h: 1024,
-    x0: [1000, 0, 0],
-    t0: 0,
-    p: [-659_298_496_512, 0, 0],
-    q: [0; 3],
-    f: [-659_298_496_512, 0, 0],
-    rho: 54_685_204_480,
-    g: 1286,
-    bin: 0,
-};
+/// The rest of a particle of mass 1024 at rest on the x axis.
+const AT_REST: &str = "mass = 1024\ny = 0\nz = 0\npx = 0\npy = 0\npz = 0\n";
 
-const RIGHT: Particle = Particle {
-    x0: [1512, 0, 0],
-    p: [659_298_496_512, 0, 0],
-    f: [659_298_496_512, 0, 0],
-    ..LEFT
-};
+/// Two such particles, half a smoothing length apart: each by its length and its x.
+const HALF_REACH: [(u32, u32); 2] = [(1024, 1000), (1024, 1512)];
 
-/// The pair with at most so many particles in a leaf.
-fn pair(alloc: Global, leaf: u32) -> Result<Deck, Fail> {
-    let text = format!(in alloc; "leaf = {leaf}\n{PAIR}")?;
+/// Two particles with at most so many in a leaf.
+fn pair(alloc: Global, leaf: u32, bodies: [(u32, u32); 2]) -> Result<Deck, Fail> {
+    let mut text = format!(in alloc; "leaf = {leaf}\n{TOP}")?;
+    for (h, x) in bodies {
+        let row = format!(in alloc; "[[particle]]\nh = {h}\nx = {x}\n{AT_REST}")?;
+        text.push_str(row.as_str())?;
+    }
     Ok(read_deck(alloc, text.as_bytes()).ok().ok_or("refused")?)
+}
+
+/// What the step leaves of such a particle, by its length, its x, its density, its ghost and the force on it.
+const fn pressed(h: u32, x: u32, rho: u64, g: u64, f: i128) -> Particle {
+    Particle {
+        mass: 1024,
+        h,
+        x0: [x, 0, 0],
+        t0: 0,
+        p: [f, 0, 0],
+        q: [0; 3],
+        f: [f, 0, 0],
+        rho,
+        g,
+        bin: 0,
+    }
 }
 
 #[test]
 fn makes_a_block_for_each_leaf(rt: HostRuntime) -> Result<(), Fail> {
     let alloc = rt.alloc();
     for (leaf, leaves) in [(16, 1), (1, 2)] {
-        let deck = pair(alloc, leaf)?;
+        let deck = pair(alloc, leaf, HALF_REACH)?;
         let particles = start(alloc, &deck)?;
         let (stage, blocks) = prepare(alloc, &deck, &particles, 0)?;
         assert_eq!(rt; stage.leaves(), leaves);
@@ -52,14 +57,64 @@ fn makes_a_block_for_each_leaf(rt: HostRuntime) -> Result<(), Fail> {
     Ok(())
 }
 
+/// A pair by its length and place each, and what a step leaves of it.
+type Worked = (&'static str, [(u32, u32); 2], [Particle; 2]);
+
+/// The worked pairs.
+fn worked_pairs() -> [Worked; 4] {
+    let alone = 43_748_163_584;
+    let near = 54_685_204_480;
+    [
+        (
+            "at half reach",
+            HALF_REACH,
+            [
+                pressed(1024, 1000, near, 1286, -659_298_496_512),
+                pressed(1024, 1512, near, 1286, 659_298_496_512),
+            ],
+        ),
+        (
+            "across the face",
+            [(1024, 1_048_320), (1024, 256)],
+            [
+                pressed(1024, 1_048_320, near, 1286, -659_298_496_512),
+                pressed(1024, 256, near, 1286, 659_298_496_512),
+            ],
+        ),
+        (
+            "at exact reach",
+            [(1024, 1000), (1024, 2024)],
+            [
+                pressed(1024, 1000, alone, 1608, 0),
+                pressed(1024, 2024, alone, 1608, 0),
+            ],
+        ),
+        (
+            "within one length",
+            [(1024, 1000), (2048, 2024)],
+            [
+                pressed(1024, 1000, alone, 1608, -164_920_750_080),
+                pressed(2048, 2024, 6_835_650_560, 10_294, 164_920_750_080),
+            ],
+        ),
+    ]
+}
+
+/// In one leaf, and in one each.
 #[test]
-fn pushes_a_pair_apart(rt: HostRuntime) -> Result<(), Fail> {
+fn steps_pairs(rt: HostRuntime) -> Result<(), Fail> {
     let alloc = rt.alloc();
-    for leaf in [16, 1] {
-        let deck = pair(alloc, leaf)?;
-        let mut particles = start(alloc, &deck)?;
-        step(&rt, alloc, &deck, &mut particles, 0, 1, &NoGate)?;
-        assert_eq!(rt; particles.as_slice(), [LEFT, RIGHT].as_slice());
+    for (name, bodies, want) in worked_pairs() {
+        for leaf in [16, 1] {
+            let deck = pair(alloc, leaf, bodies)?;
+            let mut particles = start(alloc, &deck)?;
+            step(&rt, alloc, &deck, &mut particles, 0, 1, &NoGate)?;
+            assert_eq!(rt;
+                particles.as_slice(),
+                want.as_slice(),
+                "{name}, {leaf} in a leaf"
+            );
+        }
     }
     Ok(())
 }

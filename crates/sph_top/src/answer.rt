@@ -20,8 +20,8 @@ use std::alloc::Global;
 use std::thread::Threads;
 
 /// All that the program does. It reads the words, then the whole source where the job reads a deck, does the
-/// job, writes the output to `out`, and writes the line of a refusal to `err`. So far all is done on the
-/// calling thread, and the number of workers changes nothing.
+/// job, writes the output to `out`, and writes the line of a refusal to `err`. The workers of a run go over
+/// its tasks in as many threads, the calling one among them; all else is done on the calling thread.
 pub fn swiftq<R: Threads + Sync, S: Source, O: Sink, E: Sink, G: Gate>(
     rt: &R,
     alloc: Global,

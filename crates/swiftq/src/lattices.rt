@@ -49,8 +49,16 @@ fn shows_the_tree_of_a_lattice(rt: HostRuntime) -> Result<(), Fail> {
     Ok(())
 }
 
+/// Runs by one worker and by several.
+const RUNS: [&str; 4] = [
+    "run",
+    "run --workers 2",
+    "run --workers 3",
+    "run --workers 64",
+];
+
 #[test]
-fn one_stream_whatever_the_leaves(rt: HostRuntime) -> Result<(), Fail> {
+fn one_stream_whatever_the_leaves_and_workers(rt: HostRuntime) -> Result<(), Fail> {
     let alloc = rt.alloc();
     let text = generated(&rt, alloc, "generate 16 7")?;
     let plain = do_job(&rt, alloc, "plain", text.as_str())?;
@@ -58,9 +66,11 @@ fn one_stream_whatever_the_leaves(rt: HostRuntime) -> Result<(), Fail> {
     assert_eq!(rt; plain.out.held().len(), 688_168);
     for leaf in [16, 1, 256] {
         let text = cut(alloc, text.as_str(), leaf, 4096, 1024)?;
-        let run = do_job(&rt, alloc, "run", text.as_str())?;
-        assert_eq!(rt; run.status, Status::Done, "{leaf}");
-        assert!(rt; run.out.held() == plain.out.held(), "{leaf}");
+        for job in RUNS {
+            let run = do_job(&rt, alloc, job, text.as_str())?;
+            assert_eq!(rt; run.status, Status::Done, "{job}, {leaf}");
+            assert!(rt; run.out.held() == plain.out.held(), "{job}, {leaf}");
+        }
     }
     Ok(())
 }
@@ -80,29 +90,51 @@ fn one_stream_however_the_work_is_cut(rt: HostRuntime) -> Result<(), Fail> {
             (256, 1, 1024),
         ] {
             let text = cut(alloc, text.as_str(), leaf, pairs, slack)?;
-            let run = do_job(&rt, alloc, "run", text.as_str())?;
-            assert_eq!(rt; run.status, Status::Done, "{job} {leaf} {pairs} {slack}");
-            assert!(rt;
-                run.out.held() == plain.out.held(),
-                "{job} {leaf} {pairs} {slack}"
-            );
+            for by in RUNS {
+                let run = do_job(&rt, alloc, by, text.as_str())?;
+                assert_eq!(rt; run.status, Status::Done, "{by}, {leaf} {pairs} {slack}");
+                assert!(rt;
+                    run.out.held() == plain.out.held(),
+                    "{by}, {leaf} {pairs} {slack}"
+                );
+            }
         }
     }
     Ok(())
 }
 
-/// A run passes the gate once with each task, and sums over all pairs not at all.
+/// A run passes the gate as often as there are tasks, and sums over all pairs not at all. The deck of one site has
+/// five steps of four tasks each.
 #[test]
-fn passes_each_task(rt: HostRuntime) -> Result<(), Fail> {
+fn passes_as_often_as_there_are_tasks(rt: HostRuntime) -> Result<(), Fail> {
     let alloc = rt.alloc();
     let text = generated(&rt, alloc, "generate 8 7")?;
     let text = with_line(alloc, text.as_str(), "ticks = 4\n", "ticks = 0\n")?;
-    for (job, passes) in [("run", 200), ("plain", 0)] {
+    for (job, text, passes) in [
+        ("run", text.as_str(), 200),
+        ("plain", text.as_str(), 0),
+        ("sample 1 0", "", 20),
+    ] {
         let gate = CountGate::new();
-        let run = do_job_past(&rt, alloc, job, text.as_str(), &gate)?;
+        let run = do_job_past(&rt, alloc, job, text, &gate)?;
         assert_eq!(rt; run.status, Status::Done, "{job}");
         assert_eq!(rt; gate.passes(), passes, "{job}");
         assert_eq!(rt; gate.firsts(), passes, "{job}");
+    }
+    Ok(())
+}
+
+/// Several workers, and the calling thread with what they leave, pass the gate as often as there are tasks.
+#[test]
+fn several_workers_pass_as_often(rt: HostRuntime) -> Result<(), Fail> {
+    let alloc = rt.alloc();
+    let text = generated(&rt, alloc, "generate 8 7")?;
+    let text = with_line(alloc, text.as_str(), "ticks = 4\n", "ticks = 0\n")?;
+    for job in ["run --workers 2", "run --workers 64"] {
+        let gate = CountGate::new();
+        let run = do_job_past(&rt, alloc, job, text.as_str(), &gate)?;
+        assert_eq!(rt; run.status, Status::Done, "{job}");
+        assert_eq!(rt; gate.passes(), 200, "{job}");
     }
     Ok(())
 }

@@ -13,10 +13,10 @@ type Row = (u32, i128, u64, u32);
 struct Worked {
     name: &'static str,
     top: Top,
-    bodies: [Body; 2],
+    bodies: &'static [Body],
     snapshots: usize,
-    first: [Row; 2],
-    last: (u32, [Row; 2]),
+    first: &'static [Row],
+    last: (u32, &'static [Row]),
 }
 
 /// A particle at rest of mass and smoothing length 1024.
@@ -32,18 +32,27 @@ const ALONE: u64 = 43_748_163_584;
 
 const PAIR: u64 = 54_685_204_480;
 
+const ONE: Worked = Worked {
+    name: "one particle",
+    top: ONE_SNAPSHOT,
+    bodies: &[REST],
+    snapshots: 1,
+    first: &[(0, 0, ALONE, 0)],
+    last: (0, &[(0, 0, ALONE, 0)]),
+};
+
 const HALF_REACH: Worked = Worked {
     name: "a pair at half reach",
     top: Top {
         ticks: 1,
         ..ONE_SNAPSHOT
     },
-    bodies: [Body { x: 1_000, ..REST }, Body { x: 1_512, ..REST }],
+    bodies: &[Body { x: 1_000, ..REST }, Body { x: 1_512, ..REST }],
     snapshots: 2,
-    first: [(1_000, 0, PAIR, 0), (1_512, 0, PAIR, 0)],
+    first: &[(1_000, 0, PAIR, 0), (1_512, 0, PAIR, 0)],
     last: (
         1,
-        [
+        &[
             (385, -659_298_496_512, ALONE, 0),
             (2_126, 659_298_496_512, ALONE, 0),
         ],
@@ -53,7 +62,7 @@ const HALF_REACH: Worked = Worked {
 const ACROSS_THE_FACE: Worked = Worked {
     name: "a pair across the face",
     top: ONE_SNAPSHOT,
-    bodies: [
+    bodies: &[
         Body {
             x: 1_048_320,
             ..REST
@@ -61,23 +70,23 @@ const ACROSS_THE_FACE: Worked = Worked {
         Body { x: 256, ..REST },
     ],
     snapshots: 1,
-    first: [(1_048_320, 0, PAIR, 0), (256, 0, PAIR, 0)],
-    last: (0, [(1_048_320, 0, PAIR, 0), (256, 0, PAIR, 0)]),
+    first: &[(1_048_320, 0, PAIR, 0), (256, 0, PAIR, 0)],
+    last: (0, &[(1_048_320, 0, PAIR, 0), (256, 0, PAIR, 0)]),
 };
 
 const EXACT_REACH: Worked = Worked {
     name: "a pair at exact reach",
     top: ONE_SNAPSHOT,
-    bodies: [Body { x: 1_000, ..REST }, Body { x: 2_024, ..REST }],
+    bodies: &[Body { x: 1_000, ..REST }, Body { x: 2_024, ..REST }],
     snapshots: 1,
-    first: [(1_000, 0, ALONE, 0), (2_024, 0, ALONE, 0)],
-    last: (0, [(1_000, 0, ALONE, 0), (2_024, 0, ALONE, 0)]),
+    first: &[(1_000, 0, ALONE, 0), (2_024, 0, ALONE, 0)],
+    last: (0, &[(1_000, 0, ALONE, 0), (2_024, 0, ALONE, 0)]),
 };
 
 const TWO_LENGTHS: Worked = Worked {
     name: "two lengths",
     top: ONE_SNAPSHOT,
-    bodies: [
+    bodies: &[
         Body { x: 1_000, ..REST },
         Body {
             h: 2_048,
@@ -86,8 +95,8 @@ const TWO_LENGTHS: Worked = Worked {
         },
     ],
     snapshots: 1,
-    first: [(1_000, 0, ALONE, 0), (2_024, 0, 6_835_650_560, 0)],
-    last: (0, [(1_000, 0, ALONE, 0), (2_024, 0, 6_835_650_560, 0)]),
+    first: &[(1_000, 0, ALONE, 0), (2_024, 0, 6_835_650_560, 0)],
+    last: (0, &[(1_000, 0, ALONE, 0), (2_024, 0, 6_835_650_560, 0)]),
 };
 
 /// Nothing moves, and the first particle alone is kicked at ticks 1 to 7.
@@ -102,7 +111,7 @@ const TWO_BINS: Worked = Worked {
         accuracy: 1_861_822,
         ..ONE_SNAPSHOT
     },
-    bodies: [
+    bodies: &[
         Body { x: 1_512, ..REST },
         Body {
             mass: 65_536,
@@ -112,13 +121,13 @@ const TWO_BINS: Worked = Worked {
         },
     ],
     snapshots: 2,
-    first: [
+    first: &[
         (1_512, 0, 743_718_780_928, 0),
         (1_000, 17_592_186_044_416, 2_810_819_510_272, 3),
     ],
     last: (
         8,
-        [
+        &[
             (1_512, 31_236_188_798_976, 743_718_780_928, 0),
             (1_000, -13_644_002_754_560, 2_810_819_510_272, 3),
         ],
@@ -137,7 +146,7 @@ const KEPT_GHOST: Worked = Worked {
         accuracy: 1_200_000,
         ..ONE_SNAPSHOT
     },
-    bodies: [
+    bodies: &[
         Body { x: 1_512, ..REST },
         Body {
             mass: 4_096,
@@ -147,13 +156,13 @@ const KEPT_GHOST: Worked = Worked {
         },
     ],
     snapshots: 2,
-    first: [
+    first: &[
         (1_512, 0, 87_496_327_168, 0),
         (1_000, 2_423_921_688_576, 185_929_695_232, 1),
     ],
     last: (
         2,
-        [
+        &[
             (2_254, 1_976_930_689_336, ALONE, 1),
             (1_000, 0, 174_992_654_336, 1),
         ],
@@ -171,12 +180,12 @@ const STEPS_OF_TWO: Worked = Worked {
         shift: 22,
         ..ONE_SNAPSHOT
     },
-    bodies: [Body { x: 1_000, ..REST }, Body { x: 1_512, ..REST }],
+    bodies: &[Body { x: 1_000, ..REST }, Body { x: 1_512, ..REST }],
     snapshots: 2,
-    first: [(1_000, 0, PAIR, 1), (1_512, 0, PAIR, 1)],
+    first: &[(1_000, 0, PAIR, 1), (1_512, 0, PAIR, 1)],
     last: (
         2,
-        [
+        &[
             (385, -1_318_596_993_024, ALONE, 1),
             (2_126, 1_318_596_993_024, ALONE, 1),
         ],
@@ -184,9 +193,9 @@ const STEPS_OF_TWO: Worked = Worked {
 };
 
 /// Whether the snapshot has this tick and these rows.
-fn is_as_worked(snapshot: &Snapshot, tick: u32, rows: &[Row; 2]) -> bool {
+fn is_as_worked(snapshot: &Snapshot, tick: u32, rows: &[Row]) -> bool {
     snapshot.tick == tick
-        && snapshot.rows.len() == 2
+        && snapshot.rows.len() == rows.len()
         && snapshot.rows.as_slice().iter().zip(rows).all(|(row, want)| (
             row.x[0], row.q[0], row.rho, row.bin,
         ) == *want)
@@ -201,6 +210,7 @@ fn snapshots(alloc: Global, stream: &[u8]) -> Result<Vec<Snapshot>, Fail> {
 fn worked_decks(rt: HostRuntime) -> Result<(), Fail> {
     let alloc = rt.alloc();
     for worked in [
+        ONE,
         HALF_REACH,
         ACROSS_THE_FACE,
         EXACT_REACH,
@@ -210,7 +220,7 @@ fn worked_decks(rt: HostRuntime) -> Result<(), Fail> {
         STEPS_OF_TWO,
     ] {
         let name = worked.name;
-        let text = deck(alloc, worked.top, &worked.bodies)?;
+        let text = deck(alloc, worked.top, worked.bodies)?;
         let run = do_job(&rt, alloc, "run", text.as_str())?;
         assert_eq!(rt; run.status, Status::Done, "{name}");
         assert!(rt; run.err.held().is_empty(), "{name}");
@@ -218,9 +228,9 @@ fn worked_decks(rt: HostRuntime) -> Result<(), Fail> {
         assert_eq!(rt; read.len(), worked.snapshots, "{name}");
         let first = read.first().ok_or("no snapshot")?;
         let last = read.last().ok_or("no snapshot")?;
-        assert!(rt; is_as_worked(first, 0, &worked.first), "first of {name}");
+        assert!(rt; is_as_worked(first, 0, worked.first), "first of {name}");
         assert!(rt;
-            is_as_worked(last, worked.last.0, &worked.last.1),
+            is_as_worked(last, worked.last.0, worked.last.1),
             "last of {name}"
         );
         let plain = do_job(&rt, alloc, "plain", text.as_str())?;
@@ -233,7 +243,7 @@ fn worked_decks(rt: HostRuntime) -> Result<(), Fail> {
 #[test]
 fn streams_have_their_lengths(rt: HostRuntime) -> Result<(), Fail> {
     let alloc = rt.alloc();
-    let pair = deck(alloc, HALF_REACH.top, &HALF_REACH.bodies)?;
+    let pair = deck(alloc, HALF_REACH.top, HALF_REACH.bodies)?;
     let run = do_job(&rt, alloc, "run", pair.as_str())?;
     assert_eq!(rt; run.out.held().len(), 376);
 
@@ -268,7 +278,7 @@ fn forty_at_one_point(rt: HostRuntime) -> Result<(), Fail> {
 #[test]
 fn checks_a_pair(rt: HostRuntime) -> Result<(), Fail> {
     let alloc = rt.alloc();
-    let text = deck(alloc, ONE_SNAPSHOT, &HALF_REACH.bodies)?;
+    let text = deck(alloc, ONE_SNAPSHOT, HALF_REACH.bodies)?;
     let run = do_job(&rt, alloc, "check", text.as_str())?;
     assert_eq!(rt; run.status, Status::Done);
     assert!(rt; run.out.held() == b"accepted: particles 2 bound 13190071320576\n".as_slice());
@@ -296,7 +306,7 @@ fn shows_the_tree_of_a_pair(rt: HostRuntime) -> Result<(), Fail> {
         pairs: 1,
         ..ONE_SNAPSHOT
     };
-    let text = deck(alloc, top, &HALF_REACH.bodies)?;
+    let text = deck(alloc, top, HALF_REACH.bodies)?;
     let run = do_job(&rt, alloc, "tree", text.as_str())?;
     assert_eq!(rt; run.status, Status::Done);
     let want: &[u8] = b"particles 2 cells 12 leaves 2 deepest 10 largest 1\n\

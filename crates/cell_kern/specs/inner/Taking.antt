@@ -9,7 +9,9 @@ use Rattle.cell_block.specs.Reading.{tasks_of}
 use Rattle.cell_block.specs.Tasks.{IsMarked}
 use Rattle.cell_kern.specs.declared.blocks.Sums.{Sums}
 use Rattle.cell_kern.specs.declared.blocks.Sums.TheVariants.{Densities, Forces}
+use Rattle.cell_kern.specs.declared.extent.Extent.{Extent}
 use Rattle.cell_kern.specs.declared.members.Member.{Member}
+use Rattle.cell_kern.specs.inner.Extents.{AreWithin, HavePlaces}
 use Rattle.cell_kern.specs.inner.Gathered.{AreBelow, AreNarrow, IsSound, force_given, gathered, members, rho_given}
 
 -- the members of a block
@@ -51,6 +53,14 @@ pub record CanTake (sums : Sums) (level : ℕ) (block : Block) : Type 0 where
 
 abbrev pub CanTakeAll : Sums → ℕ → List Block → Type 0
 CanTakeAll sums level blocks = (k : ℕ) (d : Block) → k < length blocks → CanTake sums level (get_or blocks k d)
+
+-- the members of blocks have places
+abbrev pub HaveAllPlaces : List Block → Type 0
+HaveAllPlaces blocks = (k : ℕ) (d : Block) → k < length blocks → HavePlaces (get_or blocks k d).spots.items
+
+-- as far as there is a box for a block, the block lies in it
+abbrev pub AreBoxes : List Extent → List Block → Type 0
+AreBoxes boxes blocks = (k : ℕ) (extent : Extent) (d : Block) → k < length boxes → k < length blocks → AreWithin (get_or boxes k extent) (get_or blocks k d).spots.items
 
 -- the kind of the tasks that add to these sums
 abbrev pub kind_of : Sums → Kind

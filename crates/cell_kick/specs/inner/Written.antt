@@ -32,9 +32,7 @@ ghosts_at sound due rhos k pull = ghosted sound (get_or due k false) (get_or rho
 -- the lists have an element for each member
 pub record AreSummed (summed : Summed) (members : ℕ) : Type 0 where
   pub spots : length summed.spots.now ≡ members
-  pub pulls : length summed.pulls.now ≡ members
   pub due : length summed.due.now ≡ members
-  pub rhos : length summed.rhos.now ≡ members
   pub forces : length summed.forces.now ≡ members
 
 -- what the lists say of the member at a place
@@ -51,14 +49,9 @@ pub record CanKick (scene : Scene) (summed : Summed) (k : ℕ) (particle : Parti
   pub force : IsMomentum (force_at_index summed k)
   pub momentum : IsMomentum particle.p
 
--- the kick by the sums of the lists
-abbrev pub with_rho : Particle → ℕ → Particle
-with_rho particle rho = record particle { rho = rho }
-
+-- the kick by the force of the lists, which leaves density and ghost
 abbrev pub kicked_by : Scene → Summed → ℕ → Particle → Particle
-kicked_by scene summed k particle =
-    let rho = get_or summed.rhos.now k 0 in
-    kicked_with scene.params scene.tick (with_rho particle rho) rho (get_or summed.pulls.now k (puller 0 0 0)).g (force_at_index summed k)
+kicked_by scene summed k particle = kicked_with scene.params scene.tick particle particle.rho particle.g (force_at_index summed k)
 
 abbrev pub kick_at : Scene → Summed → ℕ → Particle → Particle
 kick_at scene summed k particle = if get_or summed.due.now k false then kicked_by scene summed k particle else particle

@@ -5,7 +5,7 @@ use Rattle.qs_core.specs.Shape.{Shape, Touches}
 use Rattle.qs_core.specs.Blocks.{IsAdded, IsReady, first_leaves, second_leaves}
 
 -- the leaves of a task's first cell, and of its second, which may be none: one of the ranges ends before the other begins
-pub record AreSpans (shape : Shape) (task from to from' to' : ℕ) : Type 0 where
+pub record AreLeafRanges (shape : Shape) (task from to from' to' : ℕ) : Type 0 where
   pub rises : from ≤ to
   pub rises' : from' ≤ to'
   pub within : to ≤ shape.leaves

@@ -1,10 +1,10 @@
 //! Seats are dealt at a table's making, gathered at its end, and looked at two at a time.
-ghost use Rattle.std.specs.Prelude.{◌≡◌, ◌≤◌, ◌<◌, [], All, length, vec_capacity};
+ghost use Rattle.std.specs.Prelude.{◌≡◌, ◌≤◌, ◌<◌, ℕ, [], All, length, sum_by, vec_capacity};
 ghost use Rattle.qs_table.specs.declared.view.SeatView.{SeatView};
-ghost use Rattle.qs_table.specs.Seats.{IsIdleSeat, IsNewSeat, IsSeatOf, OwnApart};
+ghost use Rattle.qs_table.specs.Seats.{IsIdleSeat, IsNewSeat, IsSeatOf, OwnApart, views_of};
 ghost use Rattle.qs_table.specs.Views.{all_seats};
 ghost use Rattle.qs_table.specs.inner.Plays.{first_alone, pair, together, without_first};
-ghost use Rattle.qs_table.specs.inner.Tokens.{IsUnused};
+ghost use Rattle.qs_table.specs.inner.Tokens.{HoldsNone};
 
 use crate::rule::{First, Looks, Whole};
 use crate::seat::{LockSeat, QsSeat};
@@ -63,8 +63,8 @@ impl<W: Work> ResTable<W> {
         requires each { All (λ s. IsIdleSeat self.now s) seats.items }
         requires some { 0 < length seats.items }
         ensures table { result.table_id ≡ self.now.id }
-        ensures all { length result.me.0.seats ≡ length seats.items }
-        ensures unused { All IsUnused result.me.0.seats }
+        ensures all { (f : SeatView → ℕ) → sum_by f result.me.0.seats ≡ sum_by f (views_of seats.items) }
+        ensures empty { All HoldsNone result.me.0.seats }
     {
         let mut whole = seats.pop().unwrap().into_seat();
         while let Some(seat) = seats.pop() {
@@ -77,17 +77,18 @@ impl<W: Work> ResTable<W> {
     pub fn own_apart(&self, first: QsSeat<W>, second: QsSeat<W>) -> (QsSeat<W>, QsSeat<W>)
         requires first { IsSeatOf self.now first }
         requires second { IsSeatOf self.now second }
-        requires home { second.view.holds.out ≡ [] }
         ensures same { (result.0 ≡ first) × (result.1 ≡ second) }
         ensures apart { OwnApart (W.shape self.now.plan) first.view.holds second.view.holds }
     {
         let QsSeat {
             seat: mut both,
             cells: firsts,
+            task: first_task,
         } = first;
         let QsSeat {
             seat,
             cells: seconds,
+            task: second_task,
         } = second;
         self.join(&mut both, seat);
         self.meet(&mut both);
@@ -96,10 +97,12 @@ impl<W: Work> ResTable<W> {
             QsSeat {
                 seat: both,
                 cells: firsts,
+                task: first_task,
             },
             QsSeat {
                 seat,
                 cells: seconds,
+                task: second_task,
             },
         )
     }

@@ -1,10 +1,15 @@
 //! Tries on the family of four cells, by seats of one thread and of several.
-ghost use Rattle.std.specs.Prelude.{◌≡◌, ◌<◌, ◌≤◌, All, IfOk, length};
+ghost use Rattle.std.specs.Prelude.{◌≡◌, ◌<◌, ◌≤◌, ◌∷◌, [], true, All, IfOk, length, vec_capacity, None, Some};
+ghost use Rattle.qs_core.specs.Family.{family};
+ghost use Rattle.qs_core.specs.Steps.{started};
+ghost use Rattle.qs_table.specs.Seats.{IsSeatOf};
+ghost use Rattle.qs_table.specs.Tries.{owned_chain};
 ghost use Rattle.qs_table.specs.inner.Tokens.{IsEmptySeat};
 
-use crate::answers::Try;
+use crate::answers::{Claim, Try};
 use crate::seat::QsSeat;
 use crate::table::ResTable;
+use qs_core::Work;
 use qs_core::family::{CELLS, Family, Marks, THREE};
 use std::alloc::{AllocError, Global};
 use std::test::Fail;
@@ -151,6 +156,102 @@ fn two_seats_own_cells_that_are_apart(rt: HostRuntime) -> Result<(), Fail> {
     assert_eq!(rt; table.try_cell(&mut second, 3), Try::Got);
     let (_first, _second) = table.own_apart(first, second);
     assert_eq!(rt; words(&table), [4, 4, 1, 1]);
+    Ok(())
+}
+
+/// Gets cell 2, fetches the block of its leaf, and puts it back as it was.
+fn looks_at_a_block(table: &ResTable<Family>, seat: &mut QsSeat<Family>) -> Option<Marks>
+    requires { IsEmptySeat table.now seat.old }
+    ensures { IsEmptySeat table.now seat.new }
+{
+    match table.try_cell(seat, 2) {
+        Try::Got => {
+            let block = table.fetch(seat, 0);
+            table.put_back(seat, 0, block);
+            table.give_cell(seat);
+            Some(block)
+        }
+        Try::Busy { .. } => None,
+    }
+}
+
+#[test]
+fn a_block_is_fetched_and_put_back(rt: HostRuntime) -> Result<(), Fail> {
+    let (table, mut first, mut second) = opened_for_two(rt.alloc(), &CELLS)?;
+    let none_done = Marks::of(false, false, false);
+    assert_eq!(rt; looks_at_a_block(&table, &mut first), Some(none_done));
+    assert_eq!(rt; looks_at_a_block(&table, &mut second), Some(none_done));
+    assert_eq!(rt; words(&table), [0, 0, 0, 0]);
+    Ok(())
+}
+
+/// Does a claimed task on its block, frees the tasks that wait for it, and gives its cell back.
+fn works(table: &ResTable<Family>, seat: &mut QsSeat<Family>, task: u32, ready: &mut Vec<u32>)
+    requires plan { table.now.plan ≡ record { has_tasks = true; has_third = true } }
+    requires seat { IsSeatOf table.now seat.old }
+    requires task { task < 2 }
+    requires runs { seat.old.view.holds ≡ record { chains = owned_chain (family true true) 2 ∷ []; out = []; running = Some (started (family true true) task) } }
+    requires room { (ready.old.items ≡ []) × (2 ≤ vec_capacity ready.old) }
+    ensures seat { IsEmptySeat table.now seat.new }
+    ensures room { vec_capacity ready.new ≡ vec_capacity ready.old }
+{
+    let mut blocks = [table.fetch(seat, 0)];
+    THREE.apply(task, &mut blocks, &mut []);
+    let [block] = blocks;
+    table.put_back(seat, 0, block);
+    table.release(&THREE, seat, ready);
+    table.give_cell(seat);
+}
+
+/// Tries the cell of a task and asks for the task: where it is claimed, it is done, and the tasks that it freed stand in the list.
+fn asks(
+    table: &ResTable<Family>,
+    seat: &mut QsSeat<Family>,
+    task: u32,
+    ready: &mut Vec<u32>,
+) -> Option<Claim>
+    requires plan { table.now.plan ≡ record { has_tasks = true; has_third = true } }
+    requires seat { IsEmptySeat table.now seat.old }
+    requires task { task < 2 }
+    requires room { 2 ≤ vec_capacity ready.old }
+    ensures seat { IsEmptySeat table.now seat.new }
+    ensures room { vec_capacity ready.new ≡ vec_capacity ready.old }
+{
+    ready.clear();
+    match table.try_task(&THREE, seat, task) {
+        Try::Busy { .. } => return None,
+        Try::Got => {}
+    }
+    let answer = table.claim(seat, task);
+    match answer {
+        Claim::Claimed => works(table, seat, task, ready),
+        Claim::Waiting { .. } | Claim::Taken => table.give_cell(seat),
+    }
+    Some(answer)
+}
+
+#[test]
+fn a_task_waits_for_another_on_its_cell(rt: HostRuntime) -> Result<(), Fail> {
+    let (table, mut first, mut second) = opened_for_two(rt.alloc(), &THREE)?;
+    let mut ready = Vec::with_capacity(rt.alloc(), 2)?;
+    assert_eq!(rt;
+        asks(&table, &mut first, 1, &mut ready),
+        Some(Claim::Waiting { seen: 1 })
+    );
+    assert_eq!(rt;
+        asks(&table, &mut first, 0, &mut ready),
+        Some(Claim::Claimed)
+    );
+    assert_eq!(rt; ready.as_slice(), [1].as_slice());
+    assert_eq!(rt;
+        asks(&table, &mut second, 1, &mut ready),
+        Some(Claim::Claimed)
+    );
+    assert_eq!(rt; ready.as_slice(), [2].as_slice());
+    assert_eq!(rt;
+        asks(&table, &mut second, 0, &mut ready),
+        Some(Claim::Taken)
+    );
     Ok(())
 }
 

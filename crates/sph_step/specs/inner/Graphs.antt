@@ -1,5 +1,5 @@
 -- What the graph of some spans of a tree is known to be.
-use Rattle.std.specs.Prelude.{ℕ, ◌<◌, ◌^◌, List, length, All}
+use Rattle.std.specs.Prelude.{◌<◌, ◌^◌, List, length, All}
 use Rattle.cell_tree.specs.declared.tree.Span.{Span}
 use Rattle.cell_tree.specs.Tree.{Made}
 use Rattle.task_graph.specs.Graph.{Plan, WaitAtLeaves}

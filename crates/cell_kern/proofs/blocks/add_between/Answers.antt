@@ -5,7 +5,8 @@ use Rattle.cell_block.specs.declared.block.Block.{Block}
 use Rattle.cell_kern.specs.declared.members.Member.{Member}
 use Rattle.cell_kern.specs.inner.Gathered.{IsSound}
 use Rattle.cell_kern.specs.inner.Taking.{IsGiven, rows_in}
-use Rattle.cell_kern.proofs.Range.{all_taken, more_taken, next_taken, none_taken, part_few, part_sound, part_taken, rows_after, rows_sound, same_rows_all, taken_can_all}
+use Rattle.cell_kern.proofs.Apart.{spots_in_box}
+use Rattle.cell_kern.proofs.Range.{all_taken, boxes_after, more_taken, next_taken, none_taken, part_few, part_sound, part_taken, rows_after, rows_sound, same_rows_all, taken_can_all}
 use Rattle.cell_kern.proofs.blocks.add_between.Goals as goal
 
 pub loop-one-init : goal.loop-one-init
@@ -25,6 +26,14 @@ add_with-requires-clause-others c =
     let first = c.args.first.now in
     taken_can_all c.args.sums 0 (flat_map rows_in first) (flat_map rows_in (take c.loop-one.one-index first)) 0 c.args.second.now c.loop-one.second c.requires.second
     (rows_sound c.args.sums 0 first c.requires.first) c.requires.first_few (part_sound c.args.sums 0 first c.loop-one.one-index c.requires.first) (part_few first c.loop-one.one-index c.requires.first_few) c.loop-one.invariant.second
+
+pub boxes_of-boxes-requires : goal.boxes_of-boxes-requires
+boxes_of-boxes-requires c = λ k d inside. spots_in_box c.args.sums 0 (get_or c.args.second.now k d) (c.requires.second k d inside)
+
+pub add_with-requires-clause-boxes : goal.add_with-requires-clause-boxes
+add_with-requires-clause-boxes c =
+    let first = c.args.first.now in
+    boxes_after c.args.sums (flat_map rows_in first) (flat_map rows_in (take c.loop-one.one-index first)) 0 c.args.second.now c.loop-one.second c.boxes_of-boxes.result c.loop-one.invariant.second c.boxes_of-boxes.ensures
 
 pub add_with-requires-clause-few : goal.add_with-requires-clause-few
 add_with-requires-clause-few c =

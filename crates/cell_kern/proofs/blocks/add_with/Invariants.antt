@@ -3,8 +3,8 @@ use Rattle.cell_kern.specs.inner.Taking.{IsGiven, rows_in}
 use Rattle.cell_kern.proofs.Range.{AreTaken}
 use Rattle.cell_kern.proofs.blocks.add_with.Given as goal
 
-abbrev pub invariant-loop-other : goal.invariant-loop-other
-invariant-loop-other l = record {
-  one : IsGiven l.sums l.fn.one (flat_map rows_in (take l.other-index l.fn.others)) l.one;
-  others : AreTaken l.sums (rows_in l.fn.one) [] l.other-index l.fn.others l.others;
+abbrev pub invariant-loop-i : goal.invariant-loop-i
+invariant-loop-i l = record {
+  one : IsGiven l.sums l.fn.one (flat_map rows_in (take l.i l.fn.others)) l.one;
+  others : AreTaken l.sums (rows_in l.fn.one) [] l.i l.fn.others l.others;
 }

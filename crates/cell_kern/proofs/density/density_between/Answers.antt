@@ -1,10 +1,8 @@
-use Rattle.std.proofs.Common.{◌≤◌, [], length, get_or, take, fold, subst, refl, sym, ap, ◌∙◌, arith}
-use Rattle.std.specs.List.{between}
+use Rattle.std.proofs.Common.{[], length, get_or, take, fold, subst, refl, sym, ap, ◌∙◌, arith}
 use Rattle.std.proofs.lemmas.List.{length-take-le, take_all}
 use Rattle.std.proofs.lemmas.List.Elements.{All-nil, All-take}
-use Rattle.std.proofs.lemmas.Slice.{between_from_start}
 use Rattle.cell_kern.specs.declared.members.Member.{Member}
-use Rattle.cell_kern.specs.inner.Gathered.{IsPassed, IsSound, list_of, no_member, rho_given}
+use Rattle.cell_kern.specs.inner.Gathered.{IsPassed, IsSound, list_of, rho_given}
 use Rattle.cell_kern.proofs.Densities.{below_given}
 use Rattle.cell_kern.proofs.Gathers.{given_none, given_all, given_part, given_next, given_by_next}
 use Rattle.cell_kern.proofs.Lists.{length-list_of}
@@ -16,8 +14,8 @@ loop-i-init c =
     let second = list_of c.args.second.now in
     record { first = given_none rho_given first second c.args.first_rhos.now; second = given_none rho_given second first c.args.second_rhos.now }
 
-pub density_row-requires-clause-room : goal.density_row-requires-clause-room
-density_row-requires-clause-room c =
+pub density_near-requires-clause-room : goal.density_near-requires-clause-room
+density_near-requires-clause-room c =
     let first = list_of c.args.first.now in
     let second = list_of c.args.second.now in
     let long = length-list_of c.args.first.now c.requires.first in
@@ -25,8 +23,8 @@ density_row-requires-clause-room c =
     (omega (arith, c.requires.second.few, length-list_of c.args.second.now c.requires.second)) (omega arith) c.requires.first_room c.loop-i.invariant.first in
     λ due. omega (arith, low c.loop-i.i (omega arith) (ap (λ (m : Member). m.due) (sym c.at-one.ensures) ∙ due))
 
-pub density_row-requires-clause-rooms : goal.density_row-requires-clause-rooms
-density_row-requires-clause-rooms c =
+pub density_near-requires-clause-rooms : goal.density_near-requires-clause-rooms
+density_near-requires-clause-rooms c =
     let first = list_of c.args.first.now in
     let second = list_of c.args.second.now in
     let long = length-list_of c.args.first.now c.requires.first in
@@ -42,13 +40,11 @@ loop-i-preserved c =
     let i = c.loop-i.i in
     let long = length-list_of c.args.first.now c.requires.first in
     let sums = c.loop-i.second_rhos in
-    let all_second : length second ≤ length sums = omega (arith, c.requires.second_count, length-list_of c.args.second.now c.requires.second) in
-    let row = ap (λ (m : Member). fold (rho_given m) (get_or c.loop-i.first_rhos i 0) (between 0 (length sums) second)) c.at-one.ensures in
-    let whole = ap (fold (rho_given (get_or first i no_member)) (get_or c.loop-i.first_rhos i 0)) (between_from_start second (length sums) ∙ take_all (length sums) second all_second) in
-    let passed = subst (λ (m : Member). IsPassed rho_given m second 0 (length sums) sums c.density_row.new.rhos) c.at-one.ensures c.density_row.ensures.others in
+    let row = ap (λ (m : Member). fold (rho_given m) (get_or c.loop-i.first_rhos i 0) second) c.at-one.ensures in
+    let passed = subst (λ (m : Member). IsPassed rho_given m second 0 (length sums) sums c.density_near.new.rhos) c.at-one.ensures c.density_near.ensures.others in
     record {
-      first = given_next rho_given first second i c.args.first_rhos.now c.loop-i.first_rhos _ 0 c.density_row.result (omega (arith, c.requires.first_count)) c.loop-i.invariant.first (c.density_row.ensures.own ∙ row ∙ whole) refl;
-      second = given_by_next rho_given second first i c.args.second_rhos.now sums c.density_row.new.rhos (omega arith) c.loop-i.invariant.second passed;
+      first = given_next rho_given first second i c.args.first_rhos.now c.loop-i.first_rhos _ 0 c.density_near.result (omega (arith, c.requires.first_count)) c.loop-i.invariant.first (c.density_near.ensures.own ∙ row) refl;
+      second = given_by_next rho_given second first i c.args.second_rhos.now sums c.density_near.new.rhos (omega arith) c.loop-i.invariant.second passed;
     }
 
 pub returns-clause-first : goal.returns-clause-first

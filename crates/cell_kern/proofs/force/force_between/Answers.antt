@@ -1,10 +1,8 @@
-use Rattle.std.proofs.Common.{◌≤◌, [], length, get_or, take, fold, subst, refl, sym, ap, ◌∙◌, arith}
-use Rattle.std.specs.List.{between}
+use Rattle.std.proofs.Common.{[], length, get_or, take, fold, subst, refl, sym, ap, ◌∙◌, arith}
 use Rattle.std.proofs.lemmas.List.{length-take-le, take_all}
 use Rattle.std.proofs.lemmas.List.Elements.{All-nil, All-take}
-use Rattle.std.proofs.lemmas.Slice.{between_from_start}
 use Rattle.cell_kern.specs.declared.members.Member.{Member}
-use Rattle.cell_kern.specs.inner.Gathered.{IsPassed, IsSound, list_of, no_member, force_given}
+use Rattle.cell_kern.specs.inner.Gathered.{IsPassed, IsSound, list_of, force_given}
 use Rattle.cell_kern.proofs.Forces.{narrow_given}
 use Rattle.cell_kern.proofs.Gathers.{given_none, given_all, given_part, given_next, given_by_next}
 use Rattle.cell_kern.proofs.Lists.{length-list_of}
@@ -16,8 +14,8 @@ loop-i-init c =
     let second = list_of c.args.second.now in
     record { first = given_none force_given first second c.args.first_forces.now; second = given_none force_given second first c.args.second_forces.now }
 
-pub force_row-requires-clause-room : goal.force_row-requires-clause-room
-force_row-requires-clause-room c =
+pub force_near-requires-clause-room : goal.force_near-requires-clause-room
+force_near-requires-clause-room c =
     let first = list_of c.args.first.now in
     let second = list_of c.args.second.now in
     let long = length-list_of c.args.first.now c.requires.first in
@@ -25,8 +23,8 @@ force_row-requires-clause-room c =
     (omega (arith, c.requires.second.few, length-list_of c.args.second.now c.requires.second)) (omega arith) c.requires.first_room c.loop-i.invariant.first in
     λ due. low c.loop-i.i (omega arith) (ap (λ (m : Member). m.due) (sym c.at-one.ensures) ∙ due)
 
-pub force_row-requires-clause-rooms : goal.force_row-requires-clause-rooms
-force_row-requires-clause-rooms c =
+pub force_near-requires-clause-rooms : goal.force_near-requires-clause-rooms
+force_near-requires-clause-rooms c =
     let first = list_of c.args.first.now in
     let second = list_of c.args.second.now in
     let long = length-list_of c.args.first.now c.requires.first in
@@ -42,13 +40,11 @@ loop-i-preserved c =
     let i = c.loop-i.i in
     let long = length-list_of c.args.first.now c.requires.first in
     let sums = c.loop-i.second_forces in
-    let all_second : length second ≤ length sums = omega (arith, c.requires.second_count, length-list_of c.args.second.now c.requires.second) in
-    let row = ap (λ (m : Member). fold (force_given m) (get_or c.loop-i.first_forces i []) (between 0 (length sums) second)) c.at-one.ensures in
-    let whole = ap (fold (force_given (get_or first i no_member)) (get_or c.loop-i.first_forces i [])) (between_from_start second (length sums) ∙ take_all (length sums) second all_second) in
-    let passed = subst (λ (m : Member). IsPassed force_given m second 0 (length sums) sums c.force_row.new.forces) c.at-one.ensures c.force_row.ensures.others in
+    let row = ap (λ (m : Member). fold (force_given m) (get_or c.loop-i.first_forces i []) second) c.at-one.ensures in
+    let passed = subst (λ (m : Member). IsPassed force_given m second 0 (length sums) sums c.force_near.new.forces) c.at-one.ensures c.force_near.ensures.others in
     record {
-      first = given_next force_given first second i c.args.first_forces.now c.loop-i.first_forces _ [] c.force_row.new.sum (omega (arith, c.requires.first_count)) c.loop-i.invariant.first (c.force_row.ensures.own ∙ row ∙ whole) refl;
-      second = given_by_next force_given second first i c.args.second_forces.now sums c.force_row.new.forces (omega arith) c.loop-i.invariant.second passed;
+      first = given_next force_given first second i c.args.first_forces.now c.loop-i.first_forces _ [] c.force_near.new.sum (omega (arith, c.requires.first_count)) c.loop-i.invariant.first (c.force_near.ensures.own ∙ row) refl;
+      second = given_by_next force_given second first i c.args.second_forces.now sums c.force_near.new.forces (omega arith) c.loop-i.invariant.second passed;
     }
 
 pub returns-clause-first : goal.returns-clause-first

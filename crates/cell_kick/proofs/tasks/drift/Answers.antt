@@ -21,4 +21,4 @@ returns c =
     let back = written_back block.spots.len block.spots.items c.place_members.new.spots (omega (arith, block.spots.ok.0)) (c.place_members.auto.spots ∙ ap length c.as_mut_slice.ensures.value) in
     let written : AreEach made block.spots.items c.place_members.new.spots = rw (c.as_slice.ensures.value, c.as_mut_slice.ensures.value) at c.place_members.ensures in
     drift_added c.args.scene.now c.args.task block _ c.mark.new.self c.requires.scene c.requires.task c.requires.block (subst (AreEach made block.spots.items) (sym back) written) refl
-    (record { marks = c.mark.ensures.marks; unchanged = c.mark.ensures.unchanged; done = c.mark.ensures.done })
+    c.mark.ensures

@@ -22,4 +22,4 @@ returns c =
     let back = written_back block.pulls.len block.pulls.items c.make_ghosts.new.pulls (omega (arith, block.pulls.ok.0)) (c.make_ghosts.auto.pulls ∙ ap length c.as_mut_slice.ensures.value) in
     let written : AreEach made block.pulls.items c.make_ghosts.new.pulls = rw (c.as_slice.ensures.value, c.as_slice-2.ensures.value, c.as_mut_slice.ensures.value) at c.make_ghosts.ensures in
     ghost_added c.args.scene.now c.args.task block _ c.mark.new.self c.requires.scene c.requires.task c.requires.block (subst (AreEach made block.pulls.items) (sym back) written) refl
-    (record { marks = c.mark.ensures.marks; unchanged = c.mark.ensures.unchanged; done = c.mark.ensures.done })
+    c.mark.ensures

@@ -11,7 +11,7 @@ use Rattle.cell_kick.proofs.tasks.kick.Goals as goal
 pub kick_members-requires-clause-ready : goal.kick_members-requires-clause-ready
 kick_members-requires-clause-ready c =
     rw c.as_mut_slice.ensures.value
-    (can_kick c.args.scene.now c.args.task c.args.block.now _ c.requires.scene c.requires.task c.requires.block (record { spots = c.as_slice.ensures.value; due = c.as_slice-3.ensures.value; forces = c.as_slice-5.ensures.value }))
+    (can_kick c.args.scene.now c.args.task c.args.block.now _ c.requires.scene c.requires.task c.requires.block (record { spots = c.as_slice.ensures.value; due = c.as_slice-2.ensures.value; forces = c.as_slice-3.ensures.value }))
 
 pub mark-requires-clause-kept : goal.mark-requires-clause-kept
 mark-requires-clause-kept c =
@@ -21,10 +21,10 @@ mark-requires-clause-kept c =
 pub returns : goal.returns
 returns c =
     let block = c.args.block.now in
-    let summed : Summed = record { spots = c.as_slice.result; pulls = c.as_slice-2.result; due = c.as_slice-3.result; rhos = c.as_slice-4.result; forces = c.as_slice-5.result } in
+    let summed : Summed = record { spots = c.as_slice.result; due = c.as_slice-2.result; forces = c.as_slice-3.result } in
     let made = kick_at c.args.scene.now summed in
     let back = written_back block.particles.len block.particles.items c.kick_members.new.particles (omega (arith, block.particles.ok.0)) (c.kick_members.auto.particles ∙ ap length c.as_mut_slice.ensures.value) in
     let written : AreEach made block.particles.items c.kick_members.new.particles = rw c.as_mut_slice.ensures.value at c.kick_members.ensures in
     kick_added c.args.scene.now c.args.task block _ c.mark.new.self summed c.requires.scene c.requires.task c.requires.block
-    (record { spots = c.as_slice.ensures.value; due = c.as_slice-3.ensures.value; forces = c.as_slice-5.ensures.value }) (subst (AreEach made block.particles.items) (sym back) written) refl
-    (record { marks = c.mark.ensures.marks; unchanged = c.mark.ensures.unchanged; done = c.mark.ensures.done })
+    (record { spots = c.as_slice.ensures.value; due = c.as_slice-2.ensures.value; forces = c.as_slice-3.ensures.value }) (subst (AreEach made block.particles.items) (sym back) written) refl
+    c.mark.ensures

@@ -1,44 +1,8 @@
 use Rattle.std.proofs.Common.{get_or, refl, arith}
-use Rattle.sph_num.specs.declared.kind.Kind.TheVariants.{Density, Ghost, Force, Kick}
+use Rattle.sph_num.specs.declared.kind.Kind.TheVariants.{Density, Force}
 use Rattle.cell_block.proofs.RowsHeld.{IsWhole-from_agrees}
-use Rattle.cell_kick.proofs.FaceScene.{across_face_is_good, both_second, both_task, first_added, first_ready, leaf_line_of, number_of, second_added, second_ready, second_skips}
+use Rattle.cell_kick.proofs.FaceScene.{across_face_is_good, both_second, both_task, first_added, first_ready, second_added, second_ready, second_skips}
 use Rattle.cell_kick.proofs.tests.do_across.Goals as goal
-
-pub do_task-requires-clause-good : goal.do_task-requires-clause-good
-do_task-requires-clause-good c = rw c.requires.scene across_face_is_good
-
-pub do_task-requires-clause-number : goal.do_task-requires-clause-number
-do_task-requires-clause-number c = number_of c.args.scene.now 0 c.requires.scene (omega arith)
-
-pub do_task-requires-clause-line : goal.do_task-requires-clause-line
-do_task-requires-clause-line c = leaf_line_of c.args.scene.now Density 0 c.requires.scene refl
-
-pub do_task-requires-2-clause-good : goal.do_task-requires-2-clause-good
-do_task-requires-2-clause-good c = rw c.requires.scene across_face_is_good
-
-pub do_task-requires-2-clause-number : goal.do_task-requires-2-clause-number
-do_task-requires-2-clause-number c = number_of c.args.scene.now 2 c.requires.scene (omega arith)
-
-pub do_task-requires-2-clause-line : goal.do_task-requires-2-clause-line
-do_task-requires-2-clause-line c = leaf_line_of c.args.scene.now Ghost 2 c.requires.scene refl
-
-pub do_task-requires-3-clause-good : goal.do_task-requires-3-clause-good
-do_task-requires-3-clause-good c = rw c.requires.scene across_face_is_good
-
-pub do_task-requires-3-clause-number : goal.do_task-requires-3-clause-number
-do_task-requires-3-clause-number c = number_of c.args.scene.now 3 c.requires.scene (omega arith)
-
-pub do_task-requires-3-clause-line : goal.do_task-requires-3-clause-line
-do_task-requires-3-clause-line c = leaf_line_of c.args.scene.now Force 3 c.requires.scene refl
-
-pub do_task-requires-4-clause-good : goal.do_task-requires-4-clause-good
-do_task-requires-4-clause-good c = rw c.requires.scene across_face_is_good
-
-pub do_task-requires-4-clause-number : goal.do_task-requires-4-clause-number
-do_task-requires-4-clause-number c = number_of c.args.scene.now 5 c.requires.scene (omega arith)
-
-pub do_task-requires-4-clause-line : goal.do_task-requires-4-clause-line
-do_task-requires-4-clause-line c = leaf_line_of c.args.scene.now Kick 5 c.requires.scene refl
 
 pub density_pair-requires-clause-scene : goal.density_pair-requires-clause-scene
 density_pair-requires-clause-scene c = rw c.requires.scene across_face_is_good
@@ -50,13 +14,13 @@ pub density_pair-requires-clause-two_cells : goal.density_pair-requires-clause-t
 density_pair-requires-clause-two_cells c = both_second c.args.scene.now Density 1 c.requires.scene refl
 
 pub density_pair-requires-clause-first_ready : goal.density_pair-requires-clause-first_ready
-density_pair-requires-clause-first_ready c = rw c.from_mut.ensures.value (first_ready c.args.scene.now Density 1 c.do_task.new.block c.requires.scene refl c.do_task.ensures)
+density_pair-requires-clause-first_ready c = rw c.from_mut.ensures.value (first_ready c.args.scene.now Density 1 c.do_first.new.block c.requires.scene refl c.do_first.ensures)
 
 pub density_pair-requires-clause-second_ready : goal.density_pair-requires-clause-second_ready
 density_pair-requires-clause-second_ready c = rw c.from_mut-2.ensures.value (second_ready c.args.scene.now Density 1 c.args.second.now c.requires.scene refl (second_skips c.args.scene.now 0 c.args.second.now c.requires.scene refl c.requires.second))
 
-pub do_task-requires-2-clause-first : goal.do_task-requires-2-clause-first
-do_task-requires-2-clause-first c = first_added c.args.scene.now Density 1 c.do_task.new.block c.density_pair.new.first c.requires.scene refl c.do_task.ensures (rw c.from_mut.ensures.value at c.density_pair.ensures.first)
+pub do_first-requires-2-clause-first : goal.do_first-requires-2-clause-first
+do_first-requires-2-clause-first c = first_added c.args.scene.now Density 1 c.do_first.new.block c.density_pair.new.first c.requires.scene refl c.do_first.ensures (rw c.from_mut.ensures.value at c.density_pair.ensures.first)
 
 pub force_pair-requires-clause-scene : goal.force_pair-requires-clause-scene
 force_pair-requires-clause-scene c = rw c.requires.scene across_face_is_good
@@ -68,7 +32,7 @@ pub force_pair-requires-clause-two_cells : goal.force_pair-requires-clause-two_c
 force_pair-requires-clause-two_cells c = both_second c.args.scene.now Force 4 c.requires.scene refl
 
 pub force_pair-requires-clause-first_ready : goal.force_pair-requires-clause-first_ready
-force_pair-requires-clause-first_ready c = rw c.from_mut-3.ensures.value (first_ready c.args.scene.now Force 4 c.do_task-3.new.block c.requires.scene refl c.do_task-3.ensures)
+force_pair-requires-clause-first_ready c = rw c.from_mut-3.ensures.value (first_ready c.args.scene.now Force 4 c.do_first-3.new.block c.requires.scene refl c.do_first-3.ensures)
 
 pub force_pair-requires-clause-second_ready : goal.force_pair-requires-clause-second_ready
 force_pair-requires-clause-second_ready c =
@@ -80,11 +44,11 @@ force_pair-requires-clause-second_ready c =
     let four = second_skips scene 3 mid is refl (second_skips scene 2 mid is refl two) in
     rw c.from_mut-4.ensures.value (second_ready scene Force 4 mid is refl four)
 
-pub do_task-requires-4-clause-first : goal.do_task-requires-4-clause-first
-do_task-requires-4-clause-first c = first_added c.args.scene.now Force 4 c.do_task-3.new.block c.force_pair.new.first c.requires.scene refl c.do_task-3.ensures (rw c.from_mut-3.ensures.value at c.force_pair.ensures.first)
+pub do_first-requires-4-clause-first : goal.do_first-requires-4-clause-first
+do_first-requires-4-clause-first c = first_added c.args.scene.now Force 4 c.do_first-3.new.block c.force_pair.new.first c.requires.scene refl c.do_first-3.ensures (rw c.from_mut-3.ensures.value at c.force_pair.ensures.first)
 
 pub returns-clause-first : goal.returns-clause-first
-returns-clause-first c = IsWhole-from_agrees c.args.scene.now 0 c.do_task-4.new.block c.do_task-4.ensures.agrees
+returns-clause-first c = IsWhole-from_agrees c.args.scene.now 0 c.do_first-4.new.block c.do_first-4.ensures.agrees
 
 pub returns-clause-second : goal.returns-clause-second
 returns-clause-second c =

@@ -1,9 +1,9 @@
-use Rattle.std.proofs.Common.{◌≡◌, ap, ◌∙◌}
+use Rattle.std.proofs.Common.{ap, ◌∙◌}
 use Rattle.sph_num.specs.declared.kind.Kind.{Kind}
 use Rattle.sph_num.specs.declared.kind.Kind.TheVariants.{Drift, Density, Ghost, Force, Kick}
 use Rattle.cell_block.specs.declared.scene.TaskLine.{TaskLine}
 use Rattle.cell_block.specs.Scene.{leaf_line, line_at}
-use Rattle.cell_block.proofs.InOrder.{leaf_added, leaf_ready, leaf_task, range_added, range_ready}
+use Rattle.cell_kick.proofs.InOrder.{leaf_added, leaf_ready, leaf_task, range_added, range_ready}
 use Rattle.cell_kick.proofs.tests.do_task.Goals as goal
 
 pub drift-requires-clause-task : goal.drift-requires-clause-task

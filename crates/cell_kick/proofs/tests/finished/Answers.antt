@@ -1,5 +1,5 @@
 use Rattle.std.proofs.Common.{length, ap, arith}
-use Rattle.cell_block.proofs.InOrder.{none_first}
+use Rattle.cell_kick.proofs.InOrder.{none_first}
 use Rattle.cell_block.proofs.RowsHeld.{IsWhole-from_agrees}
 use Rattle.cell_kick.proofs.Turns.{on_one_leaf}
 use Rattle.cell_kick.proofs.tests.finished.Goals as goal

@@ -1,4 +1,4 @@
-use Rattle.cell_block.specs.inner.FirstTasks.{HasFirst}
+use Rattle.cell_kick.specs.inner.FirstTasks.{HasFirst}
 use Rattle.cell_kick.proofs.tests.finished.Given as goal
 
 abbrev pub invariant-loop-task : goal.invariant-loop-task

@@ -1,5 +1,4 @@
-use Rattle.std.proofs.Common.{refl}
-use Rattle.cell_block.proofs.InOrder.{none_first}
+use Rattle.cell_kick.proofs.InOrder.{none_first}
 use Rattle.cell_kick.proofs.FaceScene.{across_face_is_good}
 use Rattle.cell_kick.proofs.tests.finished_across.Goals as goal
 

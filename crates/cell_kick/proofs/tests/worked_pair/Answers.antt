@@ -2,8 +2,8 @@ use Rattle.std.proofs.Common.{◌≡◌, [], ◌∷◌, refl}
 use Rattle.std.proofs.lemmas.Result.{IfOk-weaker}
 use Rattle.cell_block.specs.declared.scene.Scene.{Scene}
 use Rattle.cell_block.specs.Scene.{IsGoodScene}
-use Rattle.cell_block.specs.inner.OneLeaf.{one_leaf_lines}
-use Rattle.cell_block.proofs.WorkedPair.{IsGoodScene-worked_pair, pair_bounds, pair_params, resting}
+use Rattle.cell_kick.specs.inner.OneLeaf.{one_leaf_lines}
+use Rattle.cell_kick.proofs.WorkedPair.{IsGoodScene-worked_pair, pair_bounds, pair_params, resting}
 use Rattle.cell_kick.proofs.tests.worked_pair.Goals as goal
 
 pub returns-clause-good : goal.returns-clause-good

@@ -1,6 +1,7 @@
 use Rattle.std.proofs.Common.{◌≡◌, length, subst, arith}
 use Rattle.cell_tree.specs.Tree.{cells_of}
-use Rattle.sph_step.specs.inner.Told.{AreFilled, IsParentOf}
+use Rattle.sph_step.specs.Made.{IsParentOf}
+use Rattle.sph_step.specs.inner.Told.{AreFilled}
 use Rattle.sph_step.proofs.Filled.{filled_next, filled_none}
 use Rattle.sph_step.proofs.cells.parents_of.Goals as goal
 

@@ -3,7 +3,7 @@ use Rattle.std.proofs.lemmas.List.{take_all}
 use Rattle.sph_num.specs.declared.kind.Kind.TheVariants.{Drift}
 use Rattle.cell_block.specs.declared.scene.TaskLine.{TaskLine}
 use Rattle.task_graph.specs.Tasks.{cell_task}
-use Rattle.sph_step.specs.inner.Told.{line_in}
+use Rattle.sph_step.specs.Stage.{line_in}
 use Rattle.sph_step.proofs.Filled.{map_next}
 use Rattle.sph_step.proofs.lines.lines_of.Goals as goal
 

@@ -1,5 +1,5 @@
 use Rattle.std.proofs.Common.{◌≡◌, map, take}
-use Rattle.sph_step.specs.inner.Told.{line_in}
+use Rattle.sph_step.specs.Stage.{line_in}
 use Rattle.sph_step.proofs.lines.lines_of.Given as goal
 
 abbrev pub invariant-loop-task : goal.invariant-loop-task

@@ -9,7 +9,8 @@ use Rattle.sph_plain.proofs.Runs.{InBounds-before}
 use Rattle.sph_step.specs.declared.stage.StagePlan.{StagePlan}
 use Rattle.sph_step.specs.Made.{IsStageOf, dues_at, spans_at}
 use Rattle.sph_step.specs.inner.Graphs.{IsGraphOn}
-use Rattle.sph_step.specs.inner.Told.{IsAmong, line_in}
+use Rattle.sph_step.specs.Stage.{line_in}
+use Rattle.sph_step.specs.inner.Told.{IsAmong}
 use Rattle.sph_step.proofs.Prepared.{among, stage_is}
 use Rattle.sph_step.proofs.Stages.{is_stage}
 use Rattle.sph_step.proofs.preparing.plan_of.Goals as goal

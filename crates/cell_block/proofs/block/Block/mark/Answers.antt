@@ -1,7 +1,7 @@
-use Rattle.std.proofs.Common.{◌≡◌, ◌∙◌, false, ap, sym, get_or, length, arith}
+use Rattle.std.proofs.Common.{◌≡◌, ◌∙◌, false, refl, ap, sym, get_or, length, arith}
 use Rattle.std.proofs.lemmas.List.{with_items_is}
 use Rattle.cell_block.specs.declared.block.Mark.{Mark}
-use Rattle.cell_block.proofs.DoneMarks.{done_after, left_here, mark_step, set_here}
+use Rattle.cell_block.proofs.DoneMarks.{all_marked, left_here, mark_step, set_here, with_done-more}
 use Rattle.cell_block.proofs.block.Block.mark.Goals as goal
 use Rattle.cell_block.proofs.block.Block.mark.Goals.{then-mark-task, else-mark-task}
 
@@ -18,10 +18,11 @@ loop-mark-preserved c =
           w.mark-items-is ∙ mark_step marks items i c.args.task d _ c.loop-mark-test.true c.loop-mark.invariant c.loop-mark.auto.mark-items (sym (left_here c.args.task (get_or items i d) w.if-mark-task.false))
     ]
 
-pub returns-clause-done : goal.returns-clause-done
-returns-clause-done c =
+pub returns : goal.returns
+returns c =
     let marks = c.args.self.now.marks in
     let items = c.loop-mark.mark-items in
     let old : c.deref_mut-mark-items.result.now ≡ marks.items = c.deref_mut-mark-items.ensures.value in
     let long : length items ≡ marks.len = c.loop-mark.auto.mark-items ∙ ap length old ∙ sym marks.ok.0 in
-    done_after marks.items c.deref_mut-mark-items.result.now items _ c.loop-mark.mark-index c.args.task (with_items_is marks items long) old (omega (arith, c.loop-mark-test.false)) c.loop-mark.invariant c.requires.kept
+    let new = all_marked marks.items c.deref_mut-mark-items.result.now items _ c.loop-mark.mark-index c.args.task (with_items_is marks items long) old (omega (arith, c.loop-mark-test.false)) c.loop-mark.invariant in
+    record { marks = new; unchanged = refl {a = c.args.self.now}; done = rw new (with_done-more marks.items c.args.task c.requires.kept) }

@@ -13,7 +13,7 @@ new-requires-2 g c =
     let W = g.W.Work in
     let plan = W.plan c.args.work.now in
     rw c.of.ensures (opens c.args.seats (W.shape plan) (W.fits plan) W.done c.cells-cells.ensures.laws _ _ plan (c.as_slice.ensures.value ∙ c.requires.words)
-    (subst (AreFreshSlots (W.shape plan) (W.fits plan) W.done) (sym c.fill_slots.ensures.moved) (fresh_slots (W.shape plan) (W.fits plan) W.done _ c.requires.blocks)))
+    (subst (AreFreshSlots (W.shape plan) (W.fits plan) W.done) (sym c.fill_slots.ensures.moved) (fresh_slots (W.shape plan) (W.fits plan) W.done _ c.requires.fresh)))
 
 pub invariant_of-made : goal.invariant_of-made
 invariant_of-made g c =
@@ -21,7 +21,7 @@ invariant_of-made g c =
     let ok = c.in-Ok-new.ensures.ok in
     let slots = ok.1 ∙ ap length c.fill_slots.ensures.moved ∙ length-map c.args.blocks.items Some in (
       laid_out (W.shape (W.plan c.args.work.now)) _ _ _ _ (ap (λ a. W.shape (W.plan a.work.value)) ok.5 ∙ ap (λ w. W.shape (W.plan w)) c.of.ensures) c.cells-cells.ensures.laws c.requires.lines c.requires.words
-          (ok.0 ∙ ap length c.as_slice.ensures.value) (slots ∙ c.requires.blocks.one_each),
+          (ok.0 ∙ ap length c.as_slice.ensures.value) (slots ∙ c.requires.fresh.fitting.one_each),
       ap (λ v. v.items) c.in-Ok.ensures.ok ∙ c.fill_slots.ensures.emptied,
       (let same = ap vec_capacity c.in-Ok.ensures.ok ∙ c.fill_slots.ensures.kept in let room = c.args.blocks.ok in omega (arith, slots, same, room.0, room.1)),
       subst (λ n. 0 < n) (sym (ap (λ a. a.seats) ok.5)) c.requires.seats,

@@ -1,9 +1,8 @@
-use Rattle.std.proofs.Common.{◌++◌, [], All, ap, sym, ◌∙◌, subst, length, arith}
-use Rattle.std.proofs.lemmas.List.{length_push}
+use Rattle.std.proofs.Common.{◌++◌, [], All, ap, sym, ◌∙◌, subst}
 use Rattle.std.proofs.lemmas.List.Elements.{All-append, All-cons, All-nil}
 use Rattle.qs_table.specs.Seats.{IsIdleSeat}
-use Rattle.qs_table.specs.inner.Tokens.{IsUnused}
-use Rattle.qs_table.proofs.Gathered.{all_before, all_last, length_popped, popped}
+use Rattle.qs_table.specs.inner.Tokens.{HoldsNone}
+use Rattle.qs_table.proofs.Gathered.{all_before, all_last, first_gathered, more_gathered, popped}
 use Rattle.qs_table.proofs.table.ResTable.gather.Goals as goal
 
 pub into_seat-whole-requires-clause-idle : goal.into_seat-whole-requires-clause-idle
@@ -17,8 +16,8 @@ loop-seat-init g c =
     let seat = c.into_seat-whole.ensures in
     let one = ap (λ m. m.0.seats) seat.alone.2 in (
       seat.table ∙ last.of_table.same,
-      (let many = length_popped _ _ _ is in let single = ap length one in omega (arith, many, single)),
-      subst (All IsUnused) (sym one) (All-cons IsUnused _ [] seat.unused (All-nil IsUnused)),
+      (λ f. first_gathered f _ _ _ _ is one),
+      subst (All HoldsNone) (sym one) (All-cons HoldsNone _ [] seat.empty (All-nil HoldsNone)),
       all_before (IsIdleSeat c.args.self.now) _ _ all,
     )
 
@@ -40,7 +39,7 @@ loop-seat-preserved g c =
     let one = ap (λ m. m.0.seats) c.into_seat.ensures.alone.2 in
     let both = ap (λ m. m.0.seats) c.join.ensures.1 ∙ ap (λ vs. c.loop-seat.whole.me.0.seats ++ vs) one in (
       c.join.ensures.0,
-      (let left = length_popped c.loop-seat.seats.items c.pop-in-loop-seat.new.self.items c.in-Some.seat is in let many = ap length both ∙ length_push c.loop-seat.whole.me.0.seats _ in let all = v.1 in omega (arith, left, many, all)),
-      subst (All IsUnused) (sym both) (All-append IsUnused _ _ v.2 (All-cons IsUnused _ [] c.into_seat.ensures.unused (All-nil IsUnused))),
+      (λ f. more_gathered f _ _ _ _ _ _ is both (v.1 f)),
+      subst (All HoldsNone) (sym both) (All-append HoldsNone _ _ v.2 (All-cons HoldsNone _ [] c.into_seat.ensures.empty (All-nil HoldsNone))),
       all_before (IsIdleSeat c.args.self.now) _ _ (subst (All (IsIdleSeat c.args.self.now)) is v.3),
     )

@@ -1,16 +1,16 @@
 use Rattle.std.proofs.Common.{◌<◌, ◌∙◌, [], length, map, get_or, All, ap, sym, subst, arith}
 use Rattle.std.specs.List.{range_with_len}
-use Rattle.std.proofs.lemmas.List.FromFn.{length-map-range_with_len}
 use Rattle.qs_core.specs.Shape.{Shape, IsShape, ancestors}
 use Rattle.qs_core.proofs.Ancestors.{ancestors_below}
 use Rattle.qs_table.specs.Seats.{TableView}
+use Rattle.qs_table.proofs.Opened.{cells_of_lines}
 use Rattle.qs_table.proofs.Upward.{line_is}
 use Rattle.qs_table.proofs.table.ResTable.line.Goals as goal
 
 pub above-requires : goal.above-requires
 above-requires g c =
     let laid = c.self.invariant.0 in
-    let many = ap length laid.lines_are ∙ length-map-range_with_len (ancestors _) 0 _ in
+    let many = cells_of_lines _ _ _ _ laid in
     let same = ap (λ (t : TableView _). length (g.W.Work.shape t.plan).parents) c.self.view_is in
     let cell = c.requires in
     omega (arith, many, same, cell)

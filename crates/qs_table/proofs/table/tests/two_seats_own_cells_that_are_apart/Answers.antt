@@ -1,5 +1,5 @@
 use Rattle.std.proofs.Common.{◌<◌, arith}
-use Rattle.qs_table.proofs.EmptySeats.{empty_can_lock, tried_home}
+use Rattle.qs_table.proofs.EmptySeats.{empty_can_lock}
 use Rattle.qs_table.proofs.table.tests.two_seats_own_cells_that_are_apart.Goals as goal
 
 pub try_cell-requires-clause-can : goal.try_cell-requires-clause-can
@@ -7,6 +7,3 @@ try_cell-requires-clause-can g c κs = empty_can_lock _ _ _ c.in_ok-table.ensure
 
 pub try_cell-requires-2-clause-can : goal.try_cell-requires-2-clause-can
 try_cell-requires-2-clause-can g c κs = empty_can_lock _ _ _ c.in_ok-table.ensures.seats.1.empty (omega arith)
-
-pub own_apart-first-requires-clause-home : goal.own_apart-first-requires-clause-home
-own_apart-first-requires-clause-home g c κs = tried_home _ _ _ _ c.in_ok-table.ensures.seats.1.empty _ c.try_cell-2.ensures.tried

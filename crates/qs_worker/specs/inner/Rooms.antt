@@ -1,0 +1,30 @@
+-- The room that a worker keeps for its tasks.
+use Rattle.std.specs.Prelude.{◌≡◌, ℕ, ◌<◌, ◌≤◌, List, [], length, Some}
+use Rattle.qs_core.specs.Shape.{Shape}
+use Rattle.qs_core.specs.Core.{empty_view}
+use Rattle.qs_core.specs.Blocks.{first_leaves, second_leaves}
+use Rattle.qs_table.specs.Seats.{TokenView}
+
+-- so many blocks are enough for the leaves of the first cell, and of the second, of each task below a number
+pub record HasRoomBelow (shape : Shape) (count firsts seconds : ℕ) : Type 0 where
+  pub firsts_fit : (task : ℕ) → task < count → length (first_leaves shape task) ≤ firsts
+  pub seconds_fit : (task : ℕ) → task < count → length (second_leaves shape task) ≤ seconds
+
+-- of each task
+abbrev pub HasRoom : Shape → ℕ → ℕ → Type 0
+HasRoom shape firsts seconds = HasRoomBelow shape (length shape.tasks) firsts seconds
+
+-- two empty lists with room for the blocks of each task, and one with room for all tasks
+pub record IsRoom {B : Type 0} (shape : Shape) (first second : List B) (ready : List ℕ) (firsts seconds tasks : ℕ) : Type 0 where
+  pub first_empty : first ≡ []
+  pub second_empty : second ≡ []
+  pub ready_empty : ready ≡ []
+  pub blocks_fit : HasRoom shape firsts seconds
+  pub tasks_fit : length shape.tasks ≤ tasks
+
+-- a worker's seat holds nothing, and its room is that for the work of the seat's table
+pub record IsFurnished {P B : Type 0} (shape : P → Shape) (seat : TokenView P) (first second : List B) (ready : List ℕ) (firsts seconds tasks : ℕ) : Type 0 where
+  pub rests : seat.view.holds ≡ empty_view
+  pub plan : P
+  pub plan_is : seat.plan ≡ Some plan
+  pub room : IsRoom (shape plan) first second ready firsts seconds tasks

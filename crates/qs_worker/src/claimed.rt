@@ -1,0 +1,106 @@
+//! A claimed task, from the fetch of its blocks to the release of the tasks that wait for it.
+ghost use Rattle.std.specs.Prelude.{◌≡◌, ◌+◌, ◌<◌, ◌≤◌, [], length, vec_capacity};
+ghost use Rattle.qs_core.specs.Shape.{task_at};
+ghost use Rattle.qs_core.specs.Blocks.{AreAdded, AreReady, first_leaves, second_leaves};
+ghost use Rattle.qs_core.specs.Steps.{HasReturned, unless_over};
+ghost use Rattle.qs_table.specs.Seats.{IsSeatOf};
+ghost use Rattle.qs_worker.specs.inner.Claimed.{HasDone, claimed_view, got_view, over_view};
+ghost use Rattle.qs_worker.specs.inner.Leaves.{GrewQuietly};
+ghost use Rattle.qs_worker.specs.inner.Rooms.{HasRoom};
+
+use crate::desk::Desk;
+use crate::leaves::{fetch_leaves, put_leaves};
+use crate::ranges::ranges_of;
+use qs_core::Work;
+use qs_table::{QsSeat, ResTable};
+
+/// Does a task on the blocks of a desk.
+fn apply_to<W: Work>(work: &W, desk: &mut Desk<W::Block>, task: u32)
+    requires task { task < length (W.shape (W.plan work.now)).tasks }
+    requires first { AreReady (W.shape (W.plan work.now)) task (W.fits (W.plan work.now)) W.done (first_leaves (W.shape (W.plan work.now)) task) desk.old.first.items }
+    requires second { AreReady (W.shape (W.plan work.now)) task (W.fits (W.plan work.now)) W.done (second_leaves (W.shape (W.plan work.now)) task) desk.old.second.items }
+    ensures first { AreAdded (W.shape (W.plan work.now)) task (W.fits (W.plan work.now)) W.done (first_leaves (W.shape (W.plan work.now)) task) desk.old.first.items desk.new.first.items }
+    ensures second { AreAdded (W.shape (W.plan work.now)) task (W.fits (W.plan work.now)) W.done (second_leaves (W.shape (W.plan work.now)) task) desk.old.second.items desk.new.second.items }
+    ensures room { (vec_capacity desk.new.first ≡ vec_capacity desk.old.first) × (vec_capacity desk.new.second ≡ vec_capacity desk.old.second) }
+{
+    work.apply(task, desk.first.as_mut_slice(), desk.second.as_mut_slice());
+}
+
+/// Does the task that runs on the blocks of its leaves: they are fetched, and put back with it.
+fn work_on<W: Work>(
+    work: &W,
+    table: &ResTable<W>,
+    seat: &mut QsSeat<W>,
+    desk: &mut Desk<W::Block>,
+    task: u32,
+)
+    requires work { W.plan work.now ≡ table.now.plan }
+    requires seat { IsSeatOf table.now seat.old }
+    requires task { task < length (W.shape table.now.plan).tasks }
+    requires runs { seat.old.view.holds ≡ claimed_view (W.shape table.now.plan) task }
+    requires empty { (desk.old.first.items ≡ []) × (desk.old.second.items ≡ []) }
+    requires room { HasRoom (W.shape table.now.plan) (vec_capacity desk.old.first) (vec_capacity desk.old.second) }
+    ensures seat { IsSeatOf table.now seat.new }
+    ensures holds { seat.new.view.holds ≡ over_view (W.shape table.now.plan) task }
+    ensures place { seat.new.view.place ≡ seat.old.view.place }
+    ensures notes { GrewQuietly seat.old.view.notes seat.new.view.notes }
+    ensures empty { (desk.new.first.items ≡ []) × (desk.new.second.items ≡ []) }
+    ensures room { (vec_capacity desk.new.first ≡ vec_capacity desk.old.first) × (vec_capacity desk.new.second ≡ vec_capacity desk.old.second) }
+{
+    let (first, second) = ranges_of(work, task);
+    fetch_leaves(table, seat, first, &mut desk.first);
+    fetch_leaves(table, seat, second, &mut desk.second);
+    apply_to(work, desk, task);
+    put_leaves(table, seat, second.from, &mut desk.second);
+    put_leaves(table, seat, first.from, &mut desk.first);
+}
+
+/// Gives back the cells of a task.
+pub(crate) fn give_cells<W: Work>(work: &W, table: &ResTable<W>, seat: &mut QsSeat<W>, task: u32)
+    requires work { W.plan work.now ≡ table.now.plan }
+    requires seat { IsSeatOf table.now seat.old }
+    requires task { task < length (W.shape table.now.plan).tasks }
+    requires cells { seat.old.view.holds.chains ≡ (got_view (W.shape table.now.plan) task).chains }
+    requires none_out { seat.old.view.holds.out ≡ [] }
+    requires returned { HasReturned seat.old.view.holds.running }
+    ensures seat { IsSeatOf table.now seat.new }
+    ensures holds { seat.new.view.holds ≡ record seat.old.view.holds { chains = [] } }
+    ensures place { seat.new.view.place ≡ seat.old.view.place }
+    ensures notes { GrewQuietly seat.old.view.notes seat.new.view.notes }
+{
+    let (_first, second) = work.cells_of(task);
+    table.give_cell(seat);
+    if second.is_some() {
+        table.give_cell(seat);
+    }
+}
+
+/// Does a claimed task: its blocks are fetched, worked on and put back, its cells are given back, and those that wait for it
+/// are released. Of these the ones that wait for no other come to the end of the list.
+pub(crate) fn do_claimed<W: Work>(
+    work: &W,
+    table: &ResTable<W>,
+    seat: &mut QsSeat<W>,
+    desk: &mut Desk<W::Block>,
+    ready: &mut Vec<u32>,
+    task: u32,
+)
+    requires work { W.plan work.now ≡ table.now.plan }
+    requires seat { IsSeatOf table.now seat.old }
+    requires task { task < length (W.shape table.now.plan).tasks }
+    requires runs { seat.old.view.holds ≡ claimed_view (W.shape table.now.plan) task }
+    requires empty { (desk.old.first.items ≡ []) × (desk.old.second.items ≡ []) }
+    requires room { HasRoom (W.shape table.now.plan) (vec_capacity desk.old.first) (vec_capacity desk.old.second) }
+    requires spare { length ready.old.items + length (task_at (W.shape table.now.plan) task).successors ≤ vec_capacity ready.old }
+    ensures seat { IsSeatOf table.now seat.new }
+    ensures done { HasDone (W.shape table.now.plan) task seat.old.view seat.new.view ready.old.items ready.new.items }
+    ensures empty { (desk.new.first.items ≡ []) × (desk.new.second.items ≡ []) }
+    ensures room { (vec_capacity desk.new.first ≡ vec_capacity desk.old.first) × (vec_capacity desk.new.second ≡ vec_capacity desk.old.second) }
+    ensures spare { vec_capacity ready.new ≡ vec_capacity ready.old }
+{
+    work_on(work, table, seat, desk, task);
+    give_cells(work, table, seat, task);
+    if !work.successors(task).is_empty() {
+        table.release(work, seat, ready);
+    }
+}
