@@ -3,6 +3,7 @@
 
 mod beginning;
 mod block;
+mod boxed;
 mod flat;
 mod laws;
 mod reading;
@@ -11,6 +12,7 @@ mod threads;
 mod touching;
 
 pub use block::{Block, Mark, Spot};
+pub use boxed::BoxedBlock;
 pub use flat::Flat;
 pub use laws::sums_are_whole;
 pub use scene::{LeafList, LeafMembers, LineList, Scene, TaskLine};

@@ -9,7 +9,7 @@ use crate::density::{density_between, density_within};
 use crate::extent::Extent;
 use crate::force::{force_between, force_within};
 use crate::members::Members;
-use cell_block::Block;
+use cell_block::{Block, BoxedBlock};
 use sph_num::Tables;
 
 /// The sums to which a loop adds.
@@ -20,7 +20,7 @@ pub(crate) enum Sums {
 }
 
 /// Adds what the members of some blocks give to one another.
-pub(crate) fn add_within(tables: &Tables, sums: Sums, blocks: &mut [Block])
+pub(crate) fn add_within(tables: &Tables, sums: Sums, blocks: &mut [BoxedBlock])
     requires blocks { CanTakeAll sums 0 blocks.old }
     requires few { length (flat_map rows_in blocks.old) ≤ most_particles }
     ensures { AreGivenTo sums blocks.old (flat_map rows_in blocks.old) blocks.new }
@@ -28,14 +28,19 @@ pub(crate) fn add_within(tables: &Tables, sums: Sums, blocks: &mut [Block])
     let no_boxes: [Extent; 0] = [];
     for i in 0..blocks.len() {
         let (head, behind) = blocks.split_at_mut(i + 1);
-        let one = &mut head[i];
+        let one: &mut Block = &mut head[i];
         add_own(tables, sums, one);
         add_with(tables, sums, one, behind, &no_boxes);
     }
 }
 
 /// Adds what the members of the blocks of two ranges give to one another.
-pub(crate) fn add_between(tables: &Tables, sums: Sums, first: &mut [Block], second: &mut [Block])
+pub(crate) fn add_between(
+    tables: &Tables,
+    sums: Sums,
+    first: &mut [BoxedBlock],
+    second: &mut [BoxedBlock],
+)
     requires first { CanTakeAll sums 0 first.old }
     requires second { CanTakeAll sums 0 second.old }
     requires first_few { length (flat_map rows_in first.old) ≤ most_particles }
@@ -51,7 +56,13 @@ pub(crate) fn add_between(tables: &Tables, sums: Sums, first: &mut [Block], seco
 
 /// Adds what the members of a block and those of others give to one another. The boxes are ones in which the
 /// first of the others lie.
-fn add_with(tables: &Tables, sums: Sums, one: &mut Block, others: &mut [Block], boxes: &[Extent])
+fn add_with(
+    tables: &Tables,
+    sums: Sums,
+    one: &mut Block,
+    others: &mut [BoxedBlock],
+    boxes: &[Extent],
+)
     requires one { CanTake sums 1 one.old }
     requires others { CanTakeAll sums 1 others.old }
     requires boxes { AreBoxes boxes.now others.old }
@@ -61,7 +72,7 @@ fn add_with(tables: &Tables, sums: Sums, one: &mut Block, others: &mut [Block], 
 {
     let extent = Extent::of(one.spots.as_slice());
     for i in 0..others.len() {
-        let other = &mut others[i];
+        let other: &mut Block = &mut others[i];
         let reached = box_at(boxes, i, other);
         add_near(tables, sums, one, &extent, other, &reached);
     }
@@ -69,7 +80,7 @@ fn add_with(tables: &Tables, sums: Sums, one: &mut Block, others: &mut [Block], 
 
 /// Boxes in which the first of some blocks lie. A task on two ranges comes to each block of the second once for
 /// each of the first, so their boxes are made once.
-fn boxes_of(blocks: &[Block]) -> [Extent; 16]
+fn boxes_of(blocks: &[BoxedBlock]) -> [Extent; 16]
     requires { HaveAllPlaces blocks.now }
     ensures { AreBoxes result blocks.now }
 {

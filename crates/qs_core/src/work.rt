@@ -5,12 +5,12 @@ ghost use Rattle.qs_core.specs.Blocks.{AreAdded, AreReady, first_leaves, second_
 
 /// Cells in a hierarchy with the leaves below them, tasks on one cell or two in an order, and what a task
 /// does to the blocks of its leaves. All answers follow from a plan of plain data.
-pub trait Work: Sync {
+pub trait Work {
     /// Plain data from which all answers follow.
     type Plan;
 
     /// What stands at a leaf.
-    type Block: Send + Drop;
+    type Block: Drop;
 
     ghost plan: { Self → Self.Plan };
 

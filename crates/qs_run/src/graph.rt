@@ -1,15 +1,21 @@
 //! Runs of whole graphs.
-ghost use Rattle.std.specs.Prelude.{◌≤◌, IfErr, IfOk};
+ghost use Rattle.std.specs.Prelude.{◌≡◌, ◌≤◌, ◌<◌, All, IfErr, IfOk, length};
 ghost use Rattle.qs_core.specs.Blocks.{AreFitting, AreFresh};
+ghost use Rattle.qs_table.specs.Seats.{IsNewSeat};
+ghost use Rattle.qs_worker.specs.Crews.{IsOn};
 ghost use Rattle.qs_run.specs.Blocks.{AreAllDone};
 
 use crate::ordered::finish_rest;
 use qs_core::Work;
-use qs_table::{NoRoom, ResTable};
+use qs_queues::Queues;
+use qs_table::{NoRoom, QsSeat, ResTable};
 use qs_worker::{Crew, NoCrew};
 use sph_edge::Gate;
 use std::alloc::Global;
 use std::thread::Threads;
+
+/// A further worker is started for so many tasks: for fewer, starting a thread takes longer than doing them.
+const TASKS_A_WORKER: u32 = 32;
 
 /// The blocks of a run that was refused for want of memory, one per leaf in leaf order.
 #[derive(Drop)]
@@ -17,10 +23,11 @@ pub struct RunRefused<B> {
     pub blocks: Vec<B>,
 }
 
-/// Does every task of a work on the blocks of its leaves, and passes the gate with each. The workers go over the tasks in as
-/// many threads, the calling one among them, where these can be made; what they leave is done on the calling thread, which
-/// passes the gate with the number `workers`. A run is refused before any worker starts.
-pub fn run_graph<R: Threads + Sync, W: Work, G: Gate>(
+/// Does every task of a work on the blocks of its leaves, and passes the gate with each. The workers look through as many
+/// queues for tasks, in as many threads, the calling one among them, where these can be made; what they leave is done on the
+/// calling thread, which passes the gate with the number that follows theirs. Where there are few tasks, fewer workers are
+/// made. A run is refused before any worker starts.
+pub fn run_graph<R: Threads + Sync, W: Work + Sync, G: Gate>(
     rt: &R,
     alloc: Global,
     work: &W,
@@ -28,6 +35,28 @@ pub fn run_graph<R: Threads + Sync, W: Work, G: Gate>(
     workers: u32,
     gate: &G,
 ) -> Result<Vec<W::Block>, RunRefused<W::Block>>
+where
+    W::Block: Send,
+    requires workers { (1 ≤ workers) × (workers ≤ 64) }
+    requires blocks { AreFresh (W.shape (W.plan work.now)) (W.fits (W.plan work.now)) W.done blocks.items }
+    ensures all_done { IfOk result (λ v. AreAllDone (W.shape (W.plan work.now)) (W.fits (W.plan work.now)) W.done v.items) }
+    ensures handed_back { IfErr result (λ r. AreFitting (W.shape (W.plan work.now)) (W.fits (W.plan work.now)) r.blocks.items) }
+{
+    let some = workers.min(1 + work.tasks() / TASKS_A_WORKER);
+    run_by(rt, alloc, work, blocks, some, gate)
+}
+
+/// As `run_graph`, by just so many workers.
+pub(crate) fn run_by<R: Threads + Sync, W: Work + Sync, G: Gate>(
+    rt: &R,
+    alloc: Global,
+    work: &W,
+    blocks: Vec<W::Block>,
+    workers: u32,
+    gate: &G,
+) -> Result<Vec<W::Block>, RunRefused<W::Block>>
+where
+    W::Block: Send,
     requires workers { (1 ≤ workers) × (workers ≤ 64) }
     requires blocks { AreFresh (W.shape (W.plan work.now)) (W.fits (W.plan work.now)) W.done blocks.items }
     ensures all_done { IfOk result (λ v. AreAllDone (W.shape (W.plan work.now)) (W.fits (W.plan work.now)) W.done v.items) }
@@ -37,14 +66,38 @@ pub fn run_graph<R: Threads + Sync, W: Work, G: Gate>(
         Ok(opened) => opened,
         Err(NoRoom { blocks }) => return Err(RunRefused { blocks }),
     };
-    let mut crew = match Crew::make(alloc, work, seats) {
-        Ok(crew) => crew,
+    let (queues, mut crew) = match man(alloc, work, &table, seats) {
+        Ok(manned) => manned,
         Err(NoCrew { seats }) => {
             let blocks = table.close(seats).into_blocks();
             return Err(RunRefused { blocks });
         }
     };
-    crew.walk(rt, work, &table, gate);
+    crew.work(rt, work, &table, &queues, gate);
     let closed = table.close(crew.into_seats());
     Ok(finish_rest(work, closed, workers, gate))
+}
+
+/// A worker on each of the seats of a table, and a queue for each, with room for all tasks.
+fn man<W: Work>(
+    alloc: Global,
+    work: &W,
+    table: &ResTable<W>,
+    seats: Vec<QsSeat<W>>,
+) -> Result<(Queues, Crew<W>), NoCrew<W>>
+    requires work { W.plan work.now ≡ table.now.plan }
+    requires few { (0 < length seats.items) × (length seats.items ≤ 64) }
+    requires seats { All (λ s. IsNewSeat table.now s) seats.items }
+    ensures on { IfOk result (λ r. All (λ w. IsOn table.now r.0 w) r.1) }
+    ensures as_many { IfOk result (λ r. length r.1 ≡ length seats.items) }
+    ensures tasks { IfOk result (λ r. r.0.tasks ≡ length (W.shape table.now.plan).tasks) }
+    ensures no_crew { IfErr result (λ r. r.seats.items ≡ seats.items) }
+{
+    let tasks = work.tasks();
+    let count = seats.len() as u32;
+    let Ok((queues, queue_seats)) = Queues::new(alloc, count, tasks as usize, tasks, count) else {
+        return Err(NoCrew { seats });
+    };
+    let crew = Crew::make(alloc, work, seats, queue_seats)?;
+    Ok((queues, crew))
 }

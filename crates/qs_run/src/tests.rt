@@ -1,6 +1,7 @@
 //! The small work of four cells and two leaves, run by one worker and by several.
 ghost use Rattle.std.specs.Prelude.{◌≡◌, ◌≤◌, ◌∷◌, [], false, IfOk};
 
+use crate::graph::run_by;
 use crate::{finish_rest, run_graph};
 use qs_core::family::{CELLS, Family, Marks, THREE};
 use qs_table::ResTable;
@@ -54,8 +55,22 @@ fn fresh(alloc: Global) -> Result<Vec<Marks>, AllocError>
     Ok(blocks)
 }
 
-/// What a run of so many workers leaves of blocks on which nothing is done.
+/// What a run by so many workers leaves of blocks on which nothing is done.
 fn ran<R: Threads + Sync, G: Gate>(
+    rt: &R,
+    alloc: Global,
+    work: &Family,
+    workers: u32,
+    gate: &G,
+) -> Result<Vec<Marks>, AllocError>
+    requires { (1 ≤ workers) × (workers ≤ 64) }
+{
+    let blocks = fresh(alloc)?;
+    run_by(rt, alloc, work, blocks, workers, gate).map_err(|_| AllocError)
+}
+
+/// The same, where so many workers are asked for.
+fn ran_on_request<R: Threads + Sync, G: Gate>(
     rt: &R,
     alloc: Global,
     work: &Family,
@@ -98,6 +113,15 @@ fn several_workers_do_each_task_once(rt: HostRuntime) -> Result<(), Fail> {
         assert_eq!(rt; blocks.as_slice(), all_done().as_slice());
         assert_eq!(rt; gate.passes(), 3);
     }
+    Ok(())
+}
+
+#[test]
+fn of_few_tasks_one_worker_does_all(rt: HostRuntime) -> Result<(), Fail> {
+    let gate = CountGate::new();
+    let blocks = ran_on_request(&rt, rt.alloc(), &THREE, 64, &gate)?;
+    assert_eq!(rt; blocks.as_slice(), all_done().as_slice());
+    assert_eq!(rt; (gate.passes(), gate.firsts()), (3, 3));
     Ok(())
 }
 

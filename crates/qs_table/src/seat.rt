@@ -104,7 +104,7 @@ impl<W: Work> QsSeat<W> {
     }
 
     /// A seat that owns nothing has no leaf out.
-    pub(crate) fn shows_none_out(&self)
+    pub fn shows_none_out(&self)
         requires { self.now.view.holds.chains ≡ [] }
         ensures { self.now.view.holds.out ≡ [] }
     {

@@ -13,7 +13,7 @@ use Rattle.qs_worker.specs.inner.Leaves.{GrewQuietly, KeptCells}
 pub quiet_none : (ns : List Note) → GrewQuietly ns ns
 quiet_none ns = record { further = []; is = sym (append-nil ns); frees_none = refl }
 
-pub quiet_twice : (a b c : List Note) → GrewQuietly a b → GrewQuietly b c → GrewQuietly a c
+abbrev pub quiet_twice : (a b c : List Note) → GrewQuietly a b → GrewQuietly b c → GrewQuietly a c
 quiet_twice a b c g h = record {
   further = g.further ++ h.further;
   is = h.is ∙ ap (λ (ns : List Note). ns ++ h.further) g.is ∙ append_assoc a g.further h.further;
@@ -35,11 +35,11 @@ on_cell Return cell seen c = refl
 on_cell Claim cell seen c = refl
 on_cell Release cell seen c = absurd c
 
-none_freed : (ns : List Note) → AreOnCells ns → freed_in ns ≡ []
+pub none_freed : (ns : List Note) → AreOnCells ns → freed_in ns ≡ []
 none_freed [] a = refl
 none_freed (n ∷ ns) a = ap₂ (λ o xs. cons_option o xs) (on_cell n.kind n.cell n.seen (All-head IsCellNote n ns a)) (none_freed ns (All-tail IsCellNote n ns a))
 
-pub quiet_cells : (a b : List Note) → Grew a b → GrewQuietly a b
+abbrev pub quiet_cells : (a b : List Note) → Grew a b → GrewQuietly a b
 quiet_cells a b g = record { further = g.further; is = g.is; frees_none = none_freed g.further g.on_cells }
 
 pub kept_twice : (a b c : SeatView) → KeptCells a b → KeptCells b c → KeptCells a c

@@ -3,3 +3,7 @@ pub mod Ranges
 pub mod Rooms
 pub mod Leaves
 pub mod Claimed
+pub mod Pushing
+pub mod Trials
+pub mod Idling
+pub mod Sharing

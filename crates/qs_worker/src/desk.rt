@@ -1,8 +1,10 @@
-//! Where the blocks of a task lie while it is done.
-ghost use Rattle.qs_worker.specs.inner.Rooms.{HasRoom};
+//! The room that a worker asks for: where the blocks of a task lie while it is done, and the list of the tasks that are ready.
+ghost use Rattle.std.specs.Prelude.{IfOk, vec_capacity};
+ghost use Rattle.qs_worker.specs.inner.Rooms.{HasRoom, IsRoom};
 
 use crate::ranges::ranges_of;
 use qs_core::Work;
+use std::alloc::{AllocError, Global};
 
 /// Room for the blocks of the leaves of a task's first cell, and of its second.
 #[derive(Drop)]
@@ -24,4 +26,22 @@ pub(crate) fn most_leaves<W: Work>(work: &W) -> (u32, u32)
         );
     }
     most
+}
+
+/// An empty desk with room for so many leaves, and an empty list with room for all tasks that can be ready, and behind them
+/// for those that one more frees.
+pub(crate) fn furnish<W: Work>(
+    alloc: Global,
+    work: &W,
+    most: (u32, u32),
+) -> Result<(Desk<W::Block>, Vec<u32>), AllocError>
+    requires { HasRoom (W.shape (W.plan work.now)) most.0 most.1 }
+    ensures { IfOk result (λ r. IsRoom (W.shape (W.plan work.now)) r.0.first.items r.0.second.items r.1.items (vec_capacity r.0.first) (vec_capacity r.0.second) (vec_capacity r.1)) }
+{
+    let desk = Desk {
+        first: Vec::with_capacity(alloc, most.0 as usize)?,
+        second: Vec::with_capacity(alloc, most.1 as usize)?,
+    };
+    let ready = Vec::with_capacity(alloc, 2 * work.tasks() as usize)?;
+    Ok((desk, ready))
 }

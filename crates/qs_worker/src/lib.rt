@@ -1,14 +1,20 @@
-//! Workers: each tries the tasks of a work on the lock table, and does those that it claims.
+//! Workers: each looks through queues for tasks of a work that it can claim on the lock table, and does those that it claims.
 #![tactic(auto)]
 
 mod claimed;
 mod crew;
 mod desk;
 mod leaves;
+mod looks;
+mod offers;
 mod ranges;
+mod shares;
+mod trial;
+mod turn;
 mod worker;
 
 pub use crew::{Crew, NoCrew};
+pub use turn::Turn;
 pub use worker::{NoWorker, Worker};
 
 #[cfg(test)]

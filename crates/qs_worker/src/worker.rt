@@ -1,137 +1,227 @@
-//! A worker.
-ghost use Rattle.std.specs.Prelude.{◌≡◌, ◌<◌, ◌≤◌, [], IfErr, IfOk, Some, length, vec_capacity};
-ghost use Rattle.qs_core.specs.Shape.{IsShape};
+//! A worker, and its turns.
+ghost use Rattle.std.specs.Prelude.{◌≡◌, ◌++◌, ◌∷◌, ◌<◌, [], Contains, IfErr, IfOk, None, Some, length};
 ghost use Rattle.qs_core.specs.Core.{empty_view};
-ghost use Rattle.qs_table.specs.Seats.{IsSeatOf};
-ghost use Rattle.qs_worker.specs.Walks.{AreAsked, IsAsked};
-ghost use Rattle.qs_worker.specs.inner.Rooms.{HasRoom, IsRoom};
+ghost use Rattle.qs_table.specs.Seats.{IsIdle, IsSeatOf};
+ghost use Rattle.qs_queues.specs.Calls.{Noted};
+ghost use Rattle.qs_queues.specs.Seats as queue;
+ghost use Rattle.qs_worker.specs.Looks.{Found};
+ghost use Rattle.qs_worker.specs.ReadyLists.{IsFirstTask, IsReadyList};
+ghost use Rattle.qs_worker.specs.Refusals.{WasRefused};
+ghost use Rattle.qs_worker.specs.Turns.{Turned};
+ghost use Rattle.qs_worker.specs.Worked.{Worked};
+ghost use Rattle.qs_worker.specs.inner.Idling.{idle_left};
+ghost use Rattle.qs_worker.specs.inner.Rooms.{HasRoom};
+ghost use Rattle.qs_worker.specs.inner.Trials.{HasLooked, since};
 
-use crate::claimed::{do_claimed, give_cells};
-use crate::desk::{Desk, most_leaves};
+use crate::claimed::do_claimed;
+use crate::desk::{Desk, furnish, most_leaves};
+use crate::looks::look_round;
+use crate::offers::push_ready;
+use crate::trial::TaskTrial;
+use crate::turn::Turn;
 use qs_core::Work;
-use qs_table::{Claim, QsSeat, ResTable, Try};
+use qs_queues::{QueueSeat, Queues};
+use qs_table::{QsSeat, ResTable};
 use sph_edge::Gate;
 use std::alloc::{AllocError, Global};
 use std::marker::Model;
+use std::thread;
 
-/// A seat at the lock table, with the room that its tasks ask for. Between calls the seat holds nothing: no cell, no leaf and
-/// no task.
+/// So many turns in a row may be Idle before a worker stops.
+const IDLE_TURNS: u32 = 65_536;
+
+/// A seat at the lock table and one at the queues, the tasks that are ready, and the room that tasks ask for. Between calls
+/// the seat at the table holds nothing: no cell, no leaf and no task.
 #[derive(Drop)]
 pub struct Worker<W: Work> {
     number: u32,
     seat: QsSeat<W>,
+    queue_seat: QueueSeat,
     desk: Desk<W::Block>,
-    // The tasks that one that was done has freed: a walk has no use for them, and empties the list after each task.
     ready: Vec<u32>,
 }
 
 impl<W: Work> Model for Worker<W> {
-    ghost use Rattle.qs_table.specs.Seats.{TokenView};
-    ghost use Rattle.qs_worker.specs.inner.Rooms.{IsFurnished};
     ghost use Rattle.std.specs.Prelude.{vec_capacity};
+    ghost use Rattle.qs_worker.specs.Turns.{WorkerView};
+    ghost use Rattle.qs_worker.specs.inner.Rooms.{IsEquipped};
 
-    ghost Value = { TokenView W.Plan };
+    ghost Value = { WorkerView W.Plan };
 
-    ghost view = { λ w. w.seat };
+    ghost view = { λ w. record {
+      number = w.number;
+      lock_seat = w.seat;
+      queue_seat = w.queue_seat;
+      ready = w.ready.items;
+    } };
 
-    ghost invariant = { λ w. IsFurnished W.shape w.seat w.desk.first.items w.desk.second.items w.ready.items (vec_capacity w.desk.first) (vec_capacity w.desk.second) (vec_capacity w.ready) };
+    ghost invariant = { λ w. IsEquipped W.shape w.seat w.desk.first.items w.desk.second.items w.ready.items (vec_capacity w.desk.first) (vec_capacity w.desk.second) (vec_capacity w.ready) };
 }
 
-/// There was no memory for a worker: its seat comes back.
+/// There was no memory for a worker: its seats come back.
 #[derive(Drop)]
 pub struct NoWorker<W: Work> {
     pub seat: QsSeat<W>,
+    pub queue_seat: QueueSeat,
 }
 
-/// The room that a worker asks for, where a task's cells have at most so many leaves, the first and the second.
-fn furnish<W: Work>(
-    alloc: Global,
-    work: &W,
-    most: (u32, u32),
-) -> Result<(Desk<W::Block>, Vec<u32>), AllocError>
-    requires { HasRoom (W.shape (W.plan work.now)) most.0 most.1 }
-    ensures { IfOk result (λ r. IsRoom (W.shape (W.plan work.now)) r.0.first.items r.0.second.items r.1.items (vec_capacity r.0.first) (vec_capacity r.0.second) (vec_capacity r.1)) }
+/// Looks at the queues with a trial of tasks.
+fn look_with<W: Work>(
+    queues: &Queues,
+    queue_seat: &mut QueueSeat,
+    own: u32,
+    trial: &mut TaskTrial<W>,
+) -> Option<u32>
+    requires queue_seat { queue.IsSeatOf queues.now queue_seat.old }
+    requires own { own < queues.now.queues }
+    requires tasks { queues.now.tasks ≡ length (W.shape trial.old.table.plan).tasks }
+    requires none { trial.old.taken ≡ None }
+    ensures queue_seat { queue.IsSeatOf queues.now queue_seat.new }
+    ensures name { trial.new.name ≡ trial.old.name }
+    ensures start { (trial.new.start ≡ trial.old.start) × (trial.new.table ≡ trial.old.table) }
+    ensures taken { trial.new.taken ≡ result }
+    ensures found { Noted (Found (WasRefused (W.shape trial.new.table.plan) (since trial.new.start.notes trial.new.now.view.notes)) queues.now.queues own result) queue_seat.old.view queue_seat.new.view }
 {
-    let desk = Desk {
-        first: Vec::with_capacity(alloc, most.0 as usize)?,
-        second: Vec::with_capacity(alloc, most.1 as usize)?,
-    };
-    let ready = Vec::with_capacity(alloc, work.tasks() as usize)?;
-    Ok((desk, ready))
+    look_round(queues, queue_seat, own, trial)
+}
+
+/// Looks at the queues for a task that can be claimed.
+fn look<W: Work>(
+    work: &W,
+    table: &ResTable<W>,
+    queues: &Queues,
+    seat: &mut QsSeat<W>,
+    queue_seat: &mut QueueSeat,
+    own: u32,
+) -> Option<u32>
+    requires work { W.plan work.now ≡ table.now.plan }
+    requires seat { IsSeatOf table.now seat.old }
+    requires rests { seat.old.view.holds ≡ empty_view }
+    requires queue_seat { queue.IsSeatOf queues.now queue_seat.old }
+    requires own { own < queues.now.queues }
+    requires tasks { queues.now.tasks ≡ length (W.shape table.now.plan).tasks }
+    ensures seat { IsSeatOf table.now seat.new }
+    ensures queue_seat { queue.IsSeatOf queues.now queue_seat.new }
+    ensures looked { HasLooked (W.shape table.now.plan) queues.now.queues own seat.old.view queue_seat.old.view result seat.new.view queue_seat.new.view }
+{
+    let mut trial = TaskTrial::new(work, table, seat);
+    let found = look_with(queues, queue_seat, own, &mut trial);
+    let _lent = trial.into_seat();
+    found
+}
+
+/// How many more turns in a row may be Idle after a turn, where so many might before it. After an Idle one other threads may
+/// run.
+fn idle_left(answer: Turn, left: u32) -> u32
+    requires { 0 < left }
+    ensures { result ≡ idle_left answer left }
+{
+    match answer {
+        Turn::Over => 0,
+        Turn::Ran(_) => IDLE_TURNS,
+        Turn::Idle => {
+            thread::yield_now();
+            left - 1
+        }
+    }
 }
 
 impl<W: Work> Worker<W> {
-    /// A worker on a seat that holds nothing, with the number that it tells gates.
+    /// A worker on two seats, of which that at the table owns and runs nothing. Its number is that of its own queue, and the one that
+    /// it tells gates.
     pub fn make(
         alloc: Global,
         work: &W,
         number: u32,
         seat: QsSeat<W>,
+        queue_seat: QueueSeat,
     ) -> Result<Worker<W>, NoWorker<W>>
         requires plan { seat.plan ≡ Some (W.plan work.now) }
-        requires rests { seat.view.holds ≡ empty_view }
-        ensures made { IfOk result (λ w. w ≡ seat) }
-        ensures no_worker { IfErr result (λ r. r.seat ≡ seat) }
+        requires idle { IsIdle seat.view.holds }
+        ensures made { IfOk result (λ w. w ≡ record { number = number; lock_seat = seat; queue_seat = queue_seat; ready = [] }) }
+        ensures no_worker { IfErr result (λ r. (r.seat ≡ seat) × (r.queue_seat ≡ queue_seat)) }
     {
-        Worker::make_with(alloc, work, most_leaves(work), number, seat)
+        // The call which says that a seat without cells has no leaf out.
+        seat.shows_none_out();
+        Worker::make_with(alloc, work, most_leaves(work), number, seat, queue_seat)
     }
 
-    /// As `make`, with the greatest numbers of leaves at hand.
+    /// As `make`, with the greatest numbers of leaves of a first cell and of a second at hand.
     pub(crate) fn make_with(
         alloc: Global,
         work: &W,
         most: (u32, u32),
         number: u32,
         seat: QsSeat<W>,
+        queue_seat: QueueSeat,
     ) -> Result<Worker<W>, NoWorker<W>>
         requires plan { seat.plan ≡ Some (W.plan work.now) }
         requires rests { seat.view.holds ≡ empty_view }
         requires most { HasRoom (W.shape (W.plan work.now)) most.0 most.1 }
-        ensures made { IfOk result (λ w. w ≡ seat) }
-        ensures no_worker { IfErr result (λ r. r.seat ≡ seat) }
+        ensures made { IfOk result (λ w. w ≡ record { number = number; lock_seat = seat; queue_seat = queue_seat; ready = [] }) }
+        ensures no_worker { IfErr result (λ r. (r.seat ≡ seat) × (r.queue_seat ≡ queue_seat)) }
     {
         match furnish(alloc, work, most) {
             Ok((desk, ready)) => Ok(Worker {
                 number,
                 seat,
+                queue_seat,
                 desk,
                 ready,
             }),
-            Err(AllocError) => Err(NoWorker { seat }),
+            Err(AllocError) => Err(NoWorker { seat, queue_seat }),
         }
     }
 
-    /// Asks for each task once, in the order of their numbers, and does those that it claims.
-    pub fn walk<G: Gate>(&mut self, work: &W, table: &ResTable<W>, gate: &G)
+    /// Puts a task last that waits for no other.
+    pub fn add_ready(&mut self, task: u32)
+        requires first { (plan : W.Plan) → self.old.lock_seat.plan ≡ Some plan → IsFirstTask (W.shape plan) task }
+        requires new { Contains self.old.ready task → ⊥ }
+        ensures { self.new ≡ record self.old { ready = self.old.ready ++ task ∷ [] } }
+    {
+        self.ready.push_reserved(task);
+    }
+
+    /// Offers the tasks that are ready to the queues, then takes a task from a queue and does it.
+    pub fn turn<G: Gate>(
+        &mut self,
+        work: &W,
+        table: &ResTable<W>,
+        queues: &Queues,
+        gate: &G,
+    ) -> Turn
         requires work { W.plan work.now ≡ table.now.plan }
-        requires seat { IsSeatOf table.now self.old }
-        ensures seat { IsSeatOf table.now self.new }
-        ensures place { self.new.view.place ≡ self.old.view.place }
-        ensures asked { AreAsked (W.shape table.now.plan) (length (W.shape table.now.plan).tasks) self.old.view.notes self.new.view.notes }
+        requires seat { IsSeatOf table.now self.old.lock_seat }
+        requires queue_seat { queue.IsSeatOf queues.now self.old.queue_seat }
+        requires number { self.old.number < queues.now.queues }
+        requires tasks { queues.now.tasks ≡ length (W.shape table.now.plan).tasks }
+        ensures seat { IsSeatOf table.now self.new.lock_seat }
+        ensures queue_seat { queue.IsSeatOf queues.now self.new.queue_seat }
+        ensures turned { Turned (W.shape table.now.plan) queues.now result self.old self.new }
+        ensures ready { IsReadyList (W.shape table.now.plan) self.new.lock_seat.view.notes self.new.ready }
     {
         // The call whose contract has the laws of what is scheduled.
         let _cells = work.cells();
-        for task in 0..work.tasks() {
-            self.ask_for(work, table, task, gate);
+        push_ready(
+            work,
+            queues,
+            &mut self.queue_seat,
+            self.number,
+            &mut self.ready,
+        );
+        if queues.left(&mut self.queue_seat) == 0 {
+            return Turn::Over;
         }
-    }
-
-    /// Tries a task: where it gets the cells it claims it, and where it claims it, does it.
-    fn ask_for<G: Gate>(&mut self, work: &W, table: &ResTable<W>, task: u32, gate: &G)
-        requires work { W.plan work.now ≡ table.now.plan }
-        requires laws { IsShape (W.shape table.now.plan) }
-        requires seat { IsSeatOf table.now self.old }
-        requires task { task < length (W.shape table.now.plan).tasks }
-        ensures seat { IsSeatOf table.now self.new }
-        ensures place { self.new.view.place ≡ self.old.view.place }
-        ensures asked { IsAsked (W.shape table.now.plan) task self.old.view.notes self.new.view.notes }
-    {
-        match table.try_task(work, &mut self.seat, task) {
-            Try::Busy { .. } => return,
-            Try::Got => {}
-        }
-        match table.claim(&mut self.seat, task) {
-            Claim::Claimed => {
+        let found = look(
+            work,
+            table,
+            queues,
+            &mut self.seat,
+            &mut self.queue_seat,
+            self.number,
+        );
+        match found {
+            Some(task) => {
                 gate.pass(self.number, task);
                 do_claimed(
                     work,
@@ -141,25 +231,44 @@ impl<W: Work> Worker<W> {
                     &mut self.ready,
                     task,
                 );
-                self.ready.clear();
+                queues.finish_one(&mut self.queue_seat);
+                Turn::Ran(task)
             }
-            Claim::Waiting { .. } | Claim::Taken => {
-                give_cells(work, table, &mut self.seat, task);
-            }
+            None => Turn::Idle,
         }
     }
 
-    /// The seat: it holds nothing.
-    pub fn into_seat(self) -> QsSeat<W>
-        ensures seat { result ≡ self }
-        ensures rests { result.view.holds ≡ empty_view }
+    /// Turns until no task is left, or until 65,536 turns in a row were Idle.
+    pub fn work<G: Gate>(&mut self, work: &W, table: &ResTable<W>, queues: &Queues, gate: &G)
+        requires work { W.plan work.now ≡ table.now.plan }
+        requires seat { IsSeatOf table.now self.old.lock_seat }
+        requires queue_seat { queue.IsSeatOf queues.now self.old.queue_seat }
+        requires number { self.old.number < queues.now.queues }
+        requires tasks { queues.now.tasks ≡ length (W.shape table.now.plan).tasks }
+        ensures seat { IsSeatOf table.now self.new.lock_seat }
+        ensures queue_seat { queue.IsSeatOf queues.now self.new.queue_seat }
+        ensures number { self.new.number ≡ self.old.number }
+        ensures worked { Worked (W.shape table.now.plan) queues.now 65536 self.old self.new }
+    {
+        let mut left = IDLE_TURNS;
+        while left > 0 {
+            let answer = self.turn(work, table, queues, gate);
+            left = idle_left(answer, left);
+        }
+    }
+
+    /// The seats: that at the table holds nothing.
+    pub fn into_seats(self) -> (QsSeat<W>, QueueSeat)
+        ensures seats { result ≡ (self.lock_seat, self.queue_seat) }
+        ensures rests { result.0.view.holds ≡ empty_view }
     {
         let Worker {
             number: _,
             seat,
+            queue_seat,
             desk: _,
             ready: _,
         } = self;
-        seat
+        (seat, queue_seat)
     }
 }

@@ -9,7 +9,7 @@ mod traits;
 mod whole;
 
 pub use adapters::{StdSink, StdSource};
-pub use gate::{CountGate, Gate, NoGate};
+pub use gate::{CountGate, Gate, MeetGate, NoGate};
 pub use memory::{MemorySink, MemorySource};
 pub use traits::{Failed, Sink, Source};
 pub use whole::{ReadEnd, read_whole, write_whole};

@@ -2,8 +2,8 @@
 ghost use Rattle.std.specs.Prelude.{None};
 
 use crate::{
-    CountGate, Failed, Gate, MemorySink, MemorySource, NoGate, ReadEnd, Sink, Source, StdSink,
-    StdSource, read_whole, write_whole,
+    CountGate, Failed, Gate, MeetGate, MemorySink, MemorySource, NoGate, ReadEnd, Sink, Source,
+    StdSink, StdSource, read_whole, write_whole,
 };
 use std::alloc::{AllocError, Global};
 use std::test::Fail;
@@ -76,6 +76,16 @@ fn counts_passes_and_those_of_worker_0(rt: HostRuntime) {
     }
     assert_eq!(rt; gate.passes(), 5);
     assert_eq!(rt; gate.firsts(), 3);
+}
+
+/// One thread alone can't meet itself: the worker that comes first waits its turns and goes on.
+#[test]
+fn no_two_meet_in_one_thread(rt: HostRuntime) {
+    let gate = MeetGate::new(3);
+    for worker in [2, 0, 1, 0, 1] {
+        gate.pass(worker, 0);
+        assert!(rt; !gate.met());
+    }
 }
 
 /// A source of eight bytes, at most four a call, that counts the calls without room.

@@ -17,7 +17,7 @@ ghost use Rattle.task_graph.specs.Graph.{graph_of};
 use crate::cells::{leaves_of, parents_of, ranges_of};
 use crate::lines::lines_of;
 use crate::stage::{Stage, StagePlan};
-use cell_block::{Block, Scene, tasks_by_leaf};
+use cell_block::{Block, BoxedBlock, Scene, tasks_by_leaf};
 use cell_tree::Tree;
 use pair_cover::{Limits, cover};
 use qs_core::Work;
@@ -35,7 +35,7 @@ pub fn prepare(
     deck: &Deck,
     particles: &[Particle],
     t: u32,
-) -> Result<(Stage, Vec<Block>), AllocError>
+) -> Result<(Stage, Vec<BoxedBlock>), AllocError>
     requires tick { IsStepTick deck.now.params t }
     requires before { particles.now ≡ before deck.now t }
     ensures stage { IfOk result (λ r. IsStageOf deck.now.params (bounds_of deck.now.particles) t particles.now r.0) }
@@ -53,7 +53,7 @@ pub(crate) fn prepare_with(
     deck: &Deck,
     particles: &[Particle],
     t: u32,
-) -> Result<(Stage, Vec<Block>), AllocError>
+) -> Result<(Stage, Vec<BoxedBlock>), AllocError>
     requires tick { IsStepTick deck.now.params t }
     requires before { particles.now ≡ before deck.now t }
     ensures stage { IfOk result (λ r. IsStageOf deck.now.params (bounds_of deck.now.particles) t particles.now r.0) }
@@ -67,7 +67,7 @@ pub(crate) fn prepare_with(
 }
 
 /// The blocks of a stage's leaves.
-fn blocks_of(alloc: Global, stage: &Stage) -> Result<Vec<Block>, AllocError>
+fn blocks_of(alloc: Global, stage: &Stage) -> Result<Vec<BoxedBlock>, AllocError>
     ensures { IfOk result (λ blocks. AreFresh (shape_of stage.now) (fits_in stage.now) done_of blocks.items) }
 {
     let scene = stage.scene();
@@ -75,7 +75,8 @@ fn blocks_of(alloc: Global, stage: &Stage) -> Result<Vec<Block>, AllocError>
     let mut blocks = Vec::with_capacity(alloc, stage.leaves() as usize)?;
     for leaf in 0..stage.leaves() {
         let at = tasks[leaf as usize].as_slice();
-        blocks.push(Block::with_tasks(alloc, scene, leaf, at)?)?;
+        let block = Block::with_tasks(alloc, scene, leaf, at)?;
+        blocks.push(BoxedBlock::new(alloc, block)?)?;
     }
     Ok(blocks)
 }

@@ -1,6 +1,6 @@
 //! Generated decks through the top call.
 use crate::tests::{do_job, do_job_past};
-use sph_edge::CountGate;
+use sph_edge::{CountGate, MeetGate};
 use sph_snap::{Snapshot, read_stream};
 use sph_top::Status;
 use std::alloc::{AllocError, Global};
@@ -112,6 +112,7 @@ fn passes_as_often_as_there_are_tasks(rt: HostRuntime) -> Result<(), Fail> {
     let text = with_line(alloc, text.as_str(), "ticks = 4\n", "ticks = 0\n")?;
     for (job, text, passes) in [
         ("run", text.as_str(), 200),
+        ("run --workers 1", text.as_str(), 200),
         ("plain", text.as_str(), 0),
         ("sample 1 0", "", 20),
     ] {
@@ -136,6 +137,18 @@ fn several_workers_pass_as_often(rt: HostRuntime) -> Result<(), Fail> {
         assert_eq!(rt; run.status, Status::Done, "{job}");
         assert_eq!(rt; gate.passes(), 200, "{job}");
     }
+    Ok(())
+}
+
+/// Two workers are inside tasks at once.
+#[test]
+fn two_workers_meet(rt: HostRuntime) -> Result<(), Fail> {
+    let alloc = rt.alloc();
+    let text = generated(&rt, alloc, "generate 8 7")?;
+    let gate = MeetGate::new(1_000_000_000);
+    let run = do_job_past(&rt, alloc, "run --workers 2", text.as_str(), &gate)?;
+    assert_eq!(rt; run.status, Status::Done);
+    assert!(rt; gate.met());
     Ok(())
 }
 

@@ -17,9 +17,10 @@ loop-one-init c = record {
 
 pub add_with-requires-clause-one : goal.add_with-requires-clause-one
 add_with-requires-clause-one c =
-    taken_can_all c.args.sums 0 (flat_map rows_in c.args.second.now) [] c.loop-one.one-index c.args.first.now c.loop-one.first c.requires.first
+    rw c.deref_mut.ensures.value
+    (taken_can_all c.args.sums 0 (flat_map rows_in c.args.second.now) [] c.loop-one.one-index c.args.first.now c.loop-one.first c.requires.first
     (rows_sound c.args.sums 0 c.args.second.now c.requires.second) c.requires.second_few (All-nil IsSound) (omega arith) c.loop-one.invariant.first
-    c.loop-one.one-index c.one-item.result (omega arith)
+    c.loop-one.one-index c.one-item.result (omega arith))
 
 pub add_with-requires-clause-others : goal.add_with-requires-clause-others
 add_with-requires-clause-others c =
@@ -54,10 +55,10 @@ loop-one-preserved c =
     let same = rows_after sums (flat_map rows_in first) part 0 second c.loop-one.second c.loop-one.invariant.second in
     record {
       first = next_taken sums whole i first now _ c.add_with.new.one low c.loop-one.invariant.first
-          (λ d. subst (λ (b : Block). IsGiven sums b whole c.add_with.new.one) (get_or_default now i r d (omega arith)) (subst (λ (xs : List Member). IsGiven sums (get_or now i r) xs c.add_with.new.one) same c.add_with.ensures.one))
+          (λ d. subst (λ (b : Block). IsGiven sums b whole c.add_with.new.one) (get_or_default now i r d (omega arith)) (subst (λ (xs : List Member). IsGiven sums (get_or now i r) xs c.add_with.new.one) same (rw c.deref_mut.ensures.value at c.add_with.ensures.one)))
           refl;
       second = more_taken sums (flat_map rows_in first) first i r (get_or now i r) second c.loop-one.second c.add_with.new.others low (same_rows_all sums whole [] i first now i r c.loop-one.invariant.first low)
-          c.loop-one.invariant.second c.add_with.ensures.others;
+          c.loop-one.invariant.second (rw c.deref_mut.ensures.value at c.add_with.ensures.others);
     }
 
 pub returns-clause-first : goal.returns-clause-first

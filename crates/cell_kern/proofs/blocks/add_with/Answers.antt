@@ -42,15 +42,16 @@ others_can sums one i before now can all so_far =
 
 pub box_at-reached-requires-clause-block : goal.box_at-reached-requires-clause-block
 box_at-reached-requires-clause-block c =
-    spots_in_box c.args.sums 2 _ (others_can c.args.sums c.args.one.now c.loop-i.i c.args.others.now c.loop-i.others c.requires.one c.requires.others c.loop-i.invariant.others c.loop-i.i c.index-others-i.result (omega arith))
+    rw c.deref_mut-other.ensures.value (spots_in_box c.args.sums 2 _ (others_can c.args.sums c.args.one.now c.loop-i.i c.args.others.now c.loop-i.others c.requires.one c.requires.others c.loop-i.invariant.others c.loop-i.i c.index-others-i.result (omega arith)))
 
 pub box_at-reached-requires-clause-boxes : goal.box_at-reached-requires-clause-boxes
-box_at-reached-requires-clause-boxes c = λ extent kept.
-    boxes_after c.args.sums (rows_in c.args.one.now) [] c.loop-i.i c.args.others.now c.loop-i.others c.args.boxes.now c.loop-i.invariant.others c.requires.boxes c.loop-i.i extent c.index-others-i.result kept (omega arith)
+box_at-reached-requires-clause-boxes c =
+    rw c.deref_mut-other.ensures.value
+    (λ extent kept. boxes_after c.args.sums (rows_in c.args.one.now) [] c.loop-i.i c.args.others.now c.loop-i.others c.args.boxes.now c.loop-i.invariant.others c.requires.boxes c.loop-i.i extent c.index-others-i.result kept (omega arith))
 
 pub add_near-requires-clause-second : goal.add_near-requires-clause-second
 add_near-requires-clause-second c =
-    others_can c.args.sums c.args.one.now c.loop-i.i c.args.others.now c.loop-i.others c.requires.one c.requires.others c.loop-i.invariant.others c.loop-i.i c.index-others-i.result (omega arith)
+    rw c.deref_mut-other.ensures.value (others_can c.args.sums c.args.one.now c.loop-i.i c.args.others.now c.loop-i.others c.requires.one c.requires.others c.loop-i.invariant.others c.loop-i.i c.index-others-i.result (omega arith))
 
 pub loop-i-preserved : goal.loop-i-preserved
 loop-i-preserved c =
@@ -65,9 +66,9 @@ loop-i-preserved c =
     let total = ap (λ xs. part ++ xs) (same_rows_all sums (rows_in one) [] i olds now i r c.loop-i.invariant.others low) ∙ sym (rows_more olds i r low) in
     let back = same_rows sums one part c.loop-i.one c.loop-i.invariant.one in
     record {
-      one = subst (λ (xs : List Member). IsGiven sums one xs c.add_near.new.first) total (taken_more sums one c.loop-i.one c.add_near.new.first part (rows_in (get_or now i r)) c.loop-i.invariant.one c.add_near.ensures.first);
+      one = subst (λ (xs : List Member). IsGiven sums one xs c.add_near.new.first) total (taken_more sums one c.loop-i.one c.add_near.new.first part (rows_in (get_or now i r)) c.loop-i.invariant.one (rw c.deref_mut-other.ensures.value at c.add_near.ensures.first));
       others = next_taken sums (rows_in one) i olds now _ c.add_near.new.second low c.loop-i.invariant.others
-          (λ d. subst (λ (b : Block). IsGiven sums b (rows_in one) c.add_near.new.second) (get_or_default now i r d (omega arith)) (subst (λ (xs : List Member). IsGiven sums (get_or now i r) xs c.add_near.new.second) back c.add_near.ensures.second))
+          (λ d. subst (λ (b : Block). IsGiven sums b (rows_in one) c.add_near.new.second) (get_or_default now i r d (omega arith)) (subst (λ (xs : List Member). IsGiven sums (get_or now i r) xs c.add_near.new.second) back (rw c.deref_mut-other.ensures.value at c.add_near.ensures.second)))
           refl;
     }
 

@@ -9,12 +9,12 @@ loop-i-init c = none_taken c.args.sums 0 (flat_map rows_in c.args.blocks.now) c.
 pub add_own-requires : goal.add_own-requires
 add_own-requires c =
     let split = c.split_at_mut-head in
-    own_can c.args.sums c.loop-i.i c.args.blocks.now c.loop-i.blocks split.result.0.now split.result.1.now c.index-head-i.result c.requires.blocks c.requires.few c.loop-i-test.true split.ensures.value split.ensures.front_len c.loop-i.invariant
+    rw c.deref_mut-one.ensures.value (own_can c.args.sums c.loop-i.i c.args.blocks.now c.loop-i.blocks split.result.0.now split.result.1.now c.index-head-i.result c.requires.blocks c.requires.few c.loop-i-test.true split.ensures.value split.ensures.front_len c.loop-i.invariant)
 
 pub add_with-requires-clause-one : goal.add_with-requires-clause-one
 add_with-requires-clause-one c =
     let split = c.split_at_mut-head in
-    mid_can c.args.sums c.loop-i.i c.args.blocks.now c.loop-i.blocks split.result.0.now split.result.1.now c.index-head-i.result c.add_own.new.block c.requires.blocks c.requires.few c.loop-i-test.true split.ensures.value split.ensures.front_len c.loop-i.invariant c.add_own.ensures
+    mid_can c.args.sums c.loop-i.i c.args.blocks.now c.loop-i.blocks split.result.0.now split.result.1.now c.index-head-i.result c.add_own.new.block c.requires.blocks c.requires.few c.loop-i-test.true split.ensures.value split.ensures.front_len c.loop-i.invariant (rw c.deref_mut-one.ensures.value at c.add_own.ensures)
 
 pub add_with-requires-clause-others : goal.add_with-requires-clause-others
 add_with-requires-clause-others c =
@@ -30,7 +30,7 @@ pub loop-i-preserved : goal.loop-i-preserved
 loop-i-preserved c =
     let split = c.split_at_mut-head in
     within_taken c.args.sums c.loop-i.i c.args.blocks.now c.loop-i.blocks split.result.0.now split.result.1.now c.add_with.new.others c.index-head-i.result c.add_own.new.block c.add_with.new.one
-    c.loop-i-test.true split.ensures.value split.ensures.front_len c.loop-i.invariant c.add_own.ensures c.add_with.ensures.one c.add_with.ensures.others
+    c.loop-i-test.true split.ensures.value split.ensures.front_len c.loop-i.invariant (rw c.deref_mut-one.ensures.value at c.add_own.ensures) c.add_with.ensures.one c.add_with.ensures.others
 
 pub returns : goal.returns
 returns c =

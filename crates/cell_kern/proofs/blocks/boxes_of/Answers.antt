@@ -1,6 +1,6 @@
 use Rattle.std.proofs.Common.{◌≡◌, ◌<◌, length, get_or, length-set, inl, inr, subst, sym, ap, ◌∙◌, arith}
 use Rattle.std.proofs.lemmas.Bool.{cases_lt}
-use Rattle.std.proofs.lemmas.List.{get_or-set_same, get_or-set_other, get_or_default}
+use Rattle.std.proofs.lemmas.List.{get_or-set_same, get_or-set_other, get_or_read}
 use Rattle.cell_block.specs.declared.block.Block.{Block}
 use Rattle.cell_kern.specs.declared.extent.Extent.{Extent}
 use Rattle.cell_kern.specs.inner.Extents.{AreWithin}
@@ -20,7 +20,7 @@ loop-i-preserved c =
         | inl below ↦ subst (λ (e : Extent). AreWithin e (get_or blocks k d).spots.items) (sym (get_or-set_other boxes i k new extent (omega arith))) (c.loop-i.invariant.lie k extent d below)
         | inr above ↦
             let here : k ≡ i = omega arith in
-            let block = get_or_default blocks i c.index-blocks-i.result d inside in
+            let block = c.deref.ensures ∙ get_or_read blocks i c.index-blocks-i.result inside c.index-blocks-i.is d in
             rw here (subst (λ (e : Extent). AreWithin e (get_or blocks i d).spots.items) (sym (get_or-set_same boxes i new extent within)) (subst (AreWithin new) (c.as_slice.ensures.value ∙ ap (λ (b : Block). b.spots.items) block) c.of.ensures))
       ];
     }

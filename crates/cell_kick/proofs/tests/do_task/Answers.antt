@@ -10,28 +10,28 @@ pub drift-requires-clause-task : goal.drift-requires-clause-task
 drift-requires-clause-task c = leaf_task c.args.scene.now Drift c.args.task 0 c.requires.number (c.requires.line ∙ ap (λ (k : Kind). leaf_line k 0) c.in-Drift.is)
 
 pub drift-requires-clause-block : goal.drift-requires-clause-block
-drift-requires-clause-block c = leaf_ready c.args.scene.now c.args.kind c.args.task 0 c.args.block.now c.requires.line c.requires.good c.requires.first
+drift-requires-clause-block c = rw c.deref_mut.ensures.value (leaf_ready c.args.scene.now c.args.kind c.args.task 0 c.args.block.now c.requires.line c.requires.good c.requires.first)
 
 pub returns-in-Drift : goal.returns-in-Drift
-returns-in-Drift c = leaf_added c.args.scene.now c.args.kind c.args.task 0 c.args.block.now c.drift.new.block c.requires.line c.requires.first c.drift.ensures
+returns-in-Drift c = leaf_added c.args.scene.now c.args.kind c.args.task 0 c.args.block.now c.drift.new.block c.requires.line c.requires.first (rw c.deref_mut.ensures.value at c.drift.ensures)
 
 pub ghost_-requires-clause-task : goal.ghost_-requires-clause-task
 ghost_-requires-clause-task c = leaf_task c.args.scene.now Ghost c.args.task 0 c.requires.number (c.requires.line ∙ ap (λ (k : Kind). leaf_line k 0) c.in-Ghost.is)
 
 pub ghost_-requires-clause-block : goal.ghost_-requires-clause-block
-ghost_-requires-clause-block c = leaf_ready c.args.scene.now c.args.kind c.args.task 0 c.args.block.now c.requires.line c.requires.good c.requires.first
+ghost_-requires-clause-block c = rw c.deref_mut-in-Ghost.ensures.value (leaf_ready c.args.scene.now c.args.kind c.args.task 0 c.args.block.now c.requires.line c.requires.good c.requires.first)
 
 pub returns-in-Ghost : goal.returns-in-Ghost
-returns-in-Ghost c = leaf_added c.args.scene.now c.args.kind c.args.task 0 c.args.block.now c.ghost_.new.block c.requires.line c.requires.first c.ghost_.ensures
+returns-in-Ghost c = leaf_added c.args.scene.now c.args.kind c.args.task 0 c.args.block.now c.ghost_.new.block c.requires.line c.requires.first (rw c.deref_mut-in-Ghost.ensures.value at c.ghost_.ensures)
 
 pub kick-requires-clause-task : goal.kick-requires-clause-task
 kick-requires-clause-task c = leaf_task c.args.scene.now Kick c.args.task 0 c.requires.number (c.requires.line ∙ ap (λ (k : Kind). leaf_line k 0) c.in-Kick.is)
 
 pub kick-requires-clause-block : goal.kick-requires-clause-block
-kick-requires-clause-block c = leaf_ready c.args.scene.now c.args.kind c.args.task 0 c.args.block.now c.requires.line c.requires.good c.requires.first
+kick-requires-clause-block c = rw c.deref_mut-in-Kick.ensures.value (leaf_ready c.args.scene.now c.args.kind c.args.task 0 c.args.block.now c.requires.line c.requires.good c.requires.first)
 
 pub returns-in-Kick : goal.returns-in-Kick
-returns-in-Kick c = leaf_added c.args.scene.now c.args.kind c.args.task 0 c.args.block.now c.kick.new.block c.requires.line c.requires.first c.kick.ensures
+returns-in-Kick c = leaf_added c.args.scene.now c.args.kind c.args.task 0 c.args.block.now c.kick.new.block c.requires.line c.requires.first (rw c.deref_mut-in-Kick.ensures.value at c.kick.ensures)
 
 pub density_self-requires-clause-task : goal.density_self-requires-clause-task
 density_self-requires-clause-task c = leaf_task c.args.scene.now Density c.args.task 0 c.requires.number (c.requires.line ∙ ap (λ (k : Kind). leaf_line k 0) c.in-Density.is)

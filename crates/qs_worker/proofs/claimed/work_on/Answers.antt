@@ -20,34 +20,34 @@ seconds : (g : Over) (c : After-apply_to g) → AreAdded (g.W.Work.shape c.args.
 seconds g c = work.added_for g.W.Work.shape g.W.Work.fits g.W.Work.done _ _ c.args.task second_leaves _ _ c.requires.work c.apply_to.ensures.second
 
 pub fetch_leaves-requires-clause-can : goal.fetch_leaves-requires-clause-can
-fetch_leaves-requires-clause-can g c κs within = work.can_first _ _ _ _ _ _ (ranges g (goal.at.fetch_leaves-requires-clause-can g c).After-ranges_of) c.args.seat.now.view c.requires.runs
+fetch_leaves-requires-clause-can g c = work.can_first _ _ _ _ _ _ (ranges g (goal.at.fetch_leaves-requires-clause-can g c).After-ranges_of) c.args.seat.now.view c.requires.runs
 
 pub fetch_leaves-requires-clause-room : goal.fetch_leaves-requires-clause-room
-fetch_leaves-requires-clause-room g c κs within =
+fetch_leaves-requires-clause-room g c =
     let are = ranges g (goal.at.fetch_leaves-requires-clause-room g c).After-ranges_of in
     let long = ap length are.leaves ∙ length-range_with_len _ _ in
     let fit = c.requires.room.firsts_fit c.args.task c.requires.task in
     omega (arith, long, fit)
 
 pub fetch_leaves-requires-2-clause-can : goal.fetch_leaves-requires-2-clause-can
-fetch_leaves-requires-2-clause-can g c κs within =
+fetch_leaves-requires-2-clause-can g c =
     work.can_second _ _ _ _ _ _ (ranges g (goal.at.fetch_leaves-requires-2-clause-can g c).After-ranges_of) c.args.seat.now.view c.requires.runs (g.W.Work.fits c.args.table.now.plan) g.W.Work.done _ _ c.fetch_leaves.ensures.fetched
     c.fetch_leaves.ensures.all
 
 pub fetch_leaves-requires-2-clause-room : goal.fetch_leaves-requires-2-clause-room
-fetch_leaves-requires-2-clause-room g c κs within =
+fetch_leaves-requires-2-clause-room g c =
     let are = ranges g (goal.at.fetch_leaves-requires-2-clause-room g c).After-ranges_of in
     let long = ap length are.leaves' ∙ length-range_with_len _ _ in
     let fit = c.requires.room.seconds_fit c.args.task c.requires.task in
     omega (arith, long, fit)
 
 pub apply_to-requires-clause-first : goal.apply_to-requires-clause-first
-apply_to-requires-clause-first g c κs within =
+apply_to-requires-clause-first g c =
     let are = ranges g (goal.at.apply_to-requires-clause-first g c).After-ranges_of in
     work.ready_for g.W.Work.shape g.W.Work.fits g.W.Work.done _ _ c.args.task first_leaves _ c.requires.work (work.first_ready _ _ _ _ _ _ are c.args.seat.now.view c.requires.runs (g.W.Work.fits c.args.table.now.plan) g.W.Work.done _ _ c.fetch_leaves.ensures.fetched c.fetch_leaves.ensures.all _ _ c.fetch_leaves-2.ensures.fetched c.fetch_leaves-2.ensures.all)
 
 pub apply_to-requires-clause-second : goal.apply_to-requires-clause-second
-apply_to-requires-clause-second g c κs within =
+apply_to-requires-clause-second g c =
     let are = ranges g (goal.at.apply_to-requires-clause-second g c).After-ranges_of in
     work.ready_for g.W.Work.shape g.W.Work.fits g.W.Work.done _ _ c.args.task second_leaves _ c.requires.work (work.second_ready _ _ _ _ _ _ are c.args.seat.now.view c.requires.runs (g.W.Work.fits c.args.table.now.plan) g.W.Work.done _ _ c.fetch_leaves.ensures.fetched c.fetch_leaves.ensures.all _ _ c.fetch_leaves-2.ensures.fetched c.fetch_leaves-2.ensures.all)
 
@@ -56,7 +56,7 @@ can_put_second : (g : Over) (c : After-apply_to g) → AreLeafRanges (g.W.Work.s
 can_put_second g c are = work.can_put_second _ _ _ _ _ _ are c.args.seat.now.view c.requires.runs (g.W.Work.fits c.args.table.now.plan) g.W.Work.done _ _ c.fetch_leaves.ensures.fetched c.fetch_leaves.ensures.all _ _ c.fetch_leaves-2.ensures.fetched c.fetch_leaves-2.ensures.all _ _ (firsts g c) (seconds g c)
 
 pub put_leaves-requires-clause-can : goal.put_leaves-requires-clause-can
-put_leaves-requires-clause-can g c κs within =
+put_leaves-requires-clause-can g c =
     let at = goal.at.put_leaves-requires-clause-can g c in
     (c.args.task, _, _, can_put_second g at.After-apply_to (ranges g at.After-ranges_of))
 
@@ -68,7 +68,7 @@ can_put_first : (g : Over) (c : After-put_leaves g) → AreLeafRanges (g.W.Work.
 can_put_first g c are added added' left = work.can_put_first _ _ _ _ _ _ are c.args.seat.now.view c.requires.runs (g.W.Work.fits c.args.table.now.plan) g.W.Work.done _ _ c.fetch_leaves.ensures.fetched c.fetch_leaves.ensures.all _ _ c.fetch_leaves-2.ensures.fetched c.fetch_leaves-2.ensures.all _ _ added added' _ c.put_leaves.ensures.put left
 
 pub put_leaves-requires-2-clause-can : goal.put_leaves-requires-2-clause-can
-put_leaves-requires-2-clause-can g c κs within =
+put_leaves-requires-2-clause-can g c =
     let at = goal.at.put_leaves-requires-2-clause-can g c in
     let are = ranges g at.After-ranges_of in
     let left = c.put_leaves.ensures.runs c.args.task _ _ (can_put_second g at.After-apply_to are) in

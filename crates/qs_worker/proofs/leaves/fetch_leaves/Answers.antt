@@ -15,7 +15,7 @@ loop-leaf-init g c =
     )
 
 pub fetch-requires-clause-can : goal.fetch-requires-clause-can
-fetch-requires-clause-can g c κs within =
+fetch-requires-clause-can g c =
     let v = c.loop-leaf.invariant in
     let few = v.2 in
     can_still _ _ _ _ _ _ _ v.1 c.loop-leaf.leaf (λ l m. omega (arith, few, m)) (c.requires.can c.loop-leaf.leaf c.loop-leaf.auto.leaf c.loop-leaf-test.true)

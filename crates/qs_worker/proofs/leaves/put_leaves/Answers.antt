@@ -16,7 +16,7 @@ pub loop-block-init : goal.loop-block-init
 loop-block-init g c = (c.requires.seat, none_put _ _ _ (omega arith), (λ task others successors can. can), omega arith, refl)
 
 pub put_back-requires-clause-can : goal.put_back-requires-clause-can
-put_back-requires-clause-can g c κs within =
+put_back-requires-clause-can g c =
     let v = c.loop-block.invariant in
     let can = c.requires.can in
     let few = c.requires.few.0 in
@@ -25,7 +25,7 @@ put_back-requires-clause-can g c κs within =
     (can_return (g.W.Work.shape c.args.table.now.plan) _ _ _ _ _ _ _ (popped _ _ _ _ c.pop.ensures.items c.in-Some.is) _ _ _ (v.2 can.0 can.1 can.2 can.3) (omega (arith, few, less)))
 
 pub put_back-requires-clause-brought : goal.put_back-requires-clause-brought
-put_back-requires-clause-brought g c κs within =
+put_back-requires-clause-brought g c =
     let v = c.loop-block.invariant in
     let can = c.requires.can in
     subst (λ n. IsBrought (g.W.Work.fits c.args.table.now.plan) g.W.Work.done c.loop-block.seat.view (c.args.from + n) c.in-Some.block) (sym (at g (goal.at.put_back-requires-clause-brought g c).After-len))

@@ -7,25 +7,25 @@ pub bounds-blocks-0 : goal.bounds-blocks-0
 bounds-blocks-0 c = omega (arith, one_block c.args.scene.now c.args.task Drift c.requires.scene c.requires.task tt (c.requires.kind ∙ c.in-Drift.is) c.args.blocks.now c.requires.ready)
 
 pub drift-requires-clause-block : goal.drift-requires-clause-block
-drift-requires-clause-block c = one_ready c.args.scene.now c.args.task Drift c.requires.scene c.requires.task tt (c.requires.kind ∙ c.in-Drift.is) c.args.blocks.now c.requires.ready c.index-blocks-0.result
+drift-requires-clause-block c = rw c.deref_mut.ensures.value (one_ready c.args.scene.now c.args.task Drift c.requires.scene c.requires.task tt (c.requires.kind ∙ c.in-Drift.is) c.args.blocks.now c.requires.ready c.index-blocks-0.result)
 
 pub returns-in-Drift : goal.returns-in-Drift
-returns-in-Drift c = one_added c.args.scene.now c.args.task Drift c.requires.scene c.requires.task tt (c.requires.kind ∙ c.in-Drift.is) c.args.blocks.now c.requires.ready c.index-blocks-0.result c.drift.new.block c.drift.ensures
+returns-in-Drift c = one_added c.args.scene.now c.args.task Drift c.requires.scene c.requires.task tt (c.requires.kind ∙ c.in-Drift.is) c.args.blocks.now c.requires.ready c.index-blocks-0.result c.drift.new.block (rw c.deref_mut.ensures.value at c.drift.ensures)
 
 pub bounds-blocks-0-in-Ghost : goal.bounds-blocks-0-in-Ghost
 bounds-blocks-0-in-Ghost c = omega (arith, one_block c.args.scene.now c.args.task Ghost c.requires.scene c.requires.task tt (c.requires.kind ∙ c.in-Ghost.is) c.args.blocks.now c.requires.ready)
 
 pub ghost_-requires-clause-block : goal.ghost_-requires-clause-block
-ghost_-requires-clause-block c = one_ready c.args.scene.now c.args.task Ghost c.requires.scene c.requires.task tt (c.requires.kind ∙ c.in-Ghost.is) c.args.blocks.now c.requires.ready c.index-blocks-0-in-Ghost.result
+ghost_-requires-clause-block c = rw c.deref_mut-in-Ghost.ensures.value (one_ready c.args.scene.now c.args.task Ghost c.requires.scene c.requires.task tt (c.requires.kind ∙ c.in-Ghost.is) c.args.blocks.now c.requires.ready c.index-blocks-0-in-Ghost.result)
 
 pub returns-in-Ghost : goal.returns-in-Ghost
-returns-in-Ghost c = one_added c.args.scene.now c.args.task Ghost c.requires.scene c.requires.task tt (c.requires.kind ∙ c.in-Ghost.is) c.args.blocks.now c.requires.ready c.index-blocks-0-in-Ghost.result c.ghost_.new.block c.ghost_.ensures
+returns-in-Ghost c = one_added c.args.scene.now c.args.task Ghost c.requires.scene c.requires.task tt (c.requires.kind ∙ c.in-Ghost.is) c.args.blocks.now c.requires.ready c.index-blocks-0-in-Ghost.result c.ghost_.new.block (rw c.deref_mut-in-Ghost.ensures.value at c.ghost_.ensures)
 
 pub bounds-blocks-0-in-Kick : goal.bounds-blocks-0-in-Kick
 bounds-blocks-0-in-Kick c = omega (arith, one_block c.args.scene.now c.args.task Kick c.requires.scene c.requires.task tt (c.requires.kind ∙ c.in-Kick.is) c.args.blocks.now c.requires.ready)
 
 pub kick-requires-clause-block : goal.kick-requires-clause-block
-kick-requires-clause-block c = one_ready c.args.scene.now c.args.task Kick c.requires.scene c.requires.task tt (c.requires.kind ∙ c.in-Kick.is) c.args.blocks.now c.requires.ready c.index-blocks-0-in-Kick.result
+kick-requires-clause-block c = rw c.deref_mut-in-Kick.ensures.value (one_ready c.args.scene.now c.args.task Kick c.requires.scene c.requires.task tt (c.requires.kind ∙ c.in-Kick.is) c.args.blocks.now c.requires.ready c.index-blocks-0-in-Kick.result)
 
 pub returns-in-Kick : goal.returns-in-Kick
-returns-in-Kick c = one_added c.args.scene.now c.args.task Kick c.requires.scene c.requires.task tt (c.requires.kind ∙ c.in-Kick.is) c.args.blocks.now c.requires.ready c.index-blocks-0-in-Kick.result c.kick.new.block c.kick.ensures
+returns-in-Kick c = one_added c.args.scene.now c.args.task Kick c.requires.scene c.requires.task tt (c.requires.kind ∙ c.in-Kick.is) c.args.blocks.now c.requires.ready c.index-blocks-0-in-Kick.result c.kick.new.block (rw c.deref_mut-in-Kick.ensures.value at c.kick.ensures)

@@ -21,11 +21,12 @@ put_members-requires c =
     let kept = c.scene-scene.ensures.kept in
     let inside : leaf < length plan.scene.leaves = omega (arith, c.loop-leaf-test.true, c.len-leaf-end.ensures, ap (λ (s : Scene). length s.leaves) c.scene-scene.ensures.value) in
     let is = done_block plan c.args.blocks.items leaf block kept c.requires.blocks inside c.index.ensures in
-    record {
+    rw c.deref.ensures
+    (record {
       whole = IsWhole-from_agrees plan.scene leaf block is.agrees;
       rising = subst IsStrictlyIncreasing (sym is.agrees.members) (kept.scene.leaves.rising leaf [] inside);
       within = subst (λ n. All (λ i. i < n) block.members.items) (sym c.loop-leaf.invariant.same_length) (members_inside plan.scene leaf block kept.scene is.agrees);
-    }
+    })
 
 pub loop-leaf-preserved : goal.loop-leaf-preserved
 loop-leaf-preserved c =
@@ -35,7 +36,7 @@ loop-leaf-preserved c =
     let kept = c.scene-scene.ensures.kept in
     let inside : leaf < length plan.scene.leaves = omega (arith, c.loop-leaf-test.true, c.len-leaf-end.ensures, ap (λ (s : Scene). length s.leaves) c.scene-scene.ensures.value) in
     let is = done_block plan c.args.blocks.items leaf block kept c.requires.blocks inside c.index.ensures in
-    next_leaf plan.scene leaf block c.loop-leaf.particles c.put_members.new.particles kept.scene is c.put_members.ensures c.loop-leaf.invariant
+    next_leaf plan.scene leaf block c.loop-leaf.particles c.put_members.new.particles kept.scene is (rw c.deref.ensures at c.put_members.ensures) c.loop-leaf.invariant
 
 pub returns : goal.returns
 returns c =

@@ -49,9 +49,8 @@ pub loop-leaf-preserved : goal.loop-leaf-preserved
 loop-leaf-preserved c =
     let stage = c.args.stage.now in
     let leaf = c.loop-leaf.leaf in
-    let block = c.in_ok-with_tasks.field-0 in
-    let at = subst (λ (s : Scene). Agrees s leaf block) c.scene-scene.ensures.value c.in_ok-with_tasks.ensures.0 in
-    rw c.in_ok-push.ensures.items (filled_next (IsFreshAt stage) leaf c.loop-leaf.blocks.items block c.loop-leaf.invariant (at, c.in_ok-with_tasks.ensures.1))
+    let at = subst (λ (s : Scene). Agrees s leaf c.in_ok-block.block) c.scene-scene.ensures.value c.in_ok-block.ensures.0 in
+    rw c.in_ok-push.ensures.items (filled_next (IsFreshAt stage) leaf c.loop-leaf.blocks.items c.in_ok-new.field-0 c.loop-leaf.invariant (rw c.in_ok-new.ensures (at, c.in_ok-block.ensures.1)))
 
 pub returns : goal.returns
 returns c =

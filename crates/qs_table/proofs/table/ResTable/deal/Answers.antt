@@ -16,11 +16,11 @@ loop-dealt-init g c = (
   subst (All (IsNewSeat c.args.self.now)) (sym c.requires.room.0) (All-nil (IsNewSeat c.args.self.now)),
 )
 
-pub split-others-requires-after_bounds : goal.split-others-requires-after_bounds
-split-others-requires-after_bounds g c κs within = c.loop-dealt.invariant.0
+pub split-others-requires : goal.split-others-requires
+split-others-requires g c = c.loop-dealt.invariant.0
 
 pub of-requires-clause-fresh : goal.of-requires-clause-fresh
-of-requires-clause-fresh g c κs within =
+of-requires-clause-fresh g c =
     let v = c.loop-dealt.invariant in
     let few = v.3 in
     let bundle = ap (λ m. m.0) c.split-others.ensures.first.1 ∙ ap (λ m. first_alone m.0) v.1 ∙ deals_first c.args.self.now.plan c.loop-dealt._dealt c.args.seats c.loop-dealt.auto._dealt few in (
@@ -29,7 +29,7 @@ of-requires-clause-fresh g c κs within =
     )
 
 pub of-requires-clause-slots : goal.of-requires-clause-slots
-of-requires-clause-slots g c κs within = ap (λ m. m.1) c.split-others.ensures.first.1 ∙ ap (λ m. m.1) c.loop-dealt.invariant.1
+of-requires-clause-slots g c = ap (λ m. m.1) c.split-others.ensures.first.1 ∙ ap (λ m. m.1) c.loop-dealt.invariant.1
 
 pub push_reserved-requires : goal.push_reserved-requires
 push_reserved-requires g c =
@@ -54,7 +54,7 @@ loop-dealt-preserved g c =
     )
 
 pub of-requires-2-clause-fresh : goal.of-requires-2-clause-fresh
-of-requires-2-clause-fresh g c κs within =
+of-requires-2-clause-fresh g c =
     let v = c.loop-dealt.invariant in
     let all : c.loop-dealt._dealt ≡ c.args.seats = (let few = v.3 in let last = c.loop-dealt-test.false in omega arith) in (
       c.args.self.now.plan,
@@ -62,7 +62,7 @@ of-requires-2-clause-fresh g c κs within =
     )
 
 pub of-requires-2-clause-slots : goal.of-requires-2-clause-slots
-of-requires-2-clause-slots g c κs within = ap (λ m. m.1) c.loop-dealt.invariant.1
+of-requires-2-clause-slots g c = ap (λ m. m.1) c.loop-dealt.invariant.1
 
 pub push_reserved-requires-2 : goal.push_reserved-requires-2
 push_reserved-requires-2 g c =

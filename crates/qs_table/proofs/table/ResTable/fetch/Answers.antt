@@ -9,13 +9,13 @@ use Rattle.qs_table.proofs.Sitting.{front_and_rest, same_plan, token_fetched}
 use Rattle.qs_table.proofs.table.ResTable.fetch.Goals as goal
 
 pub lay_down-requires-clause-hand : goal.lay_down-requires-clause-hand
-lay_down-requires-clause-hand g c κs within = ap (λ (v : SeatView). v.hand) c.take_out-block.ensures.knows
+lay_down-requires-clause-hand g c = ap (λ (v : SeatView). v.hand) c.take_out-block.ensures.knows
 
 pub lay_down-requires-clause-out : goal.lay_down-requires-clause-out
-lay_down-requires-clause-out g c κs within = subst (λ (v : SeatView). Contains v.holds.out c.args.leaf) (sym c.take_out-block.ensures.knows) (Contains-head c.args.leaf _)
+lay_down-requires-clause-out g c = subst (λ (v : SeatView). Contains v.holds.out c.args.leaf) (sym c.take_out-block.ensures.knows) (Contains-head c.args.leaf _)
 
 pub lay_down-requires-clause-slot : goal.lay_down-requires-clause-slot
-lay_down-requires-clause-slot g c κs within = front_and_rest _ _ _ _ c.take_out-block.ensures.slots
+lay_down-requires-clause-slot g c = front_and_rest _ _ _ _ c.take_out-block.ensures.slots
 
 pub invariant_of-seat : goal.invariant_of-seat
 invariant_of-seat g c =

@@ -15,13 +15,13 @@ loop-k-init g c = (
 )
 
 pub release_next-seen-requires-clause-can : goal.release_next-seen-requires-clause-can
-release_next-seen-requires-clause-can g c κs within = may_release _ _ _ _ _ _ c.loop-k.invariant.1 c.loop-k-test.true
+release_next-seen-requires-clause-can g c = may_release _ _ _ _ _ _ c.loop-k.invariant.1 c.loop-k-test.true
 
 pub release_next-seen-requires-clause-next : goal.release_next-seen-requires-clause-next
-release_next-seen-requires-clause-next g c κs within = releases_next _ _ _ _ _ _ c.loop-k.invariant.1 c.loop-k-test.true
+release_next-seen-requires-clause-next g c = releases_next _ _ _ _ _ _ c.loop-k.invariant.1 c.loop-k-test.true
 
 pub release_next-seen-requires-clause-within : goal.release_next-seen-requires-clause-within
-release_next-seen-requires-clause-within g c κs within = c.requires.within c.loop-k.k 0 c.loop-k-test.true
+release_next-seen-requires-clause-within g c = c.requires.within c.loop-k.k 0 c.loop-k-test.true
 
 pub push_freed-requires : goal.push_freed-requires
 push_freed-requires g c =

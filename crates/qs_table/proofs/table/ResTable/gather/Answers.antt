@@ -5,8 +5,8 @@ use Rattle.qs_table.specs.inner.Tokens.{HoldsNone}
 use Rattle.qs_table.proofs.Gathered.{all_before, all_last, first_gathered, more_gathered, popped}
 use Rattle.qs_table.proofs.table.ResTable.gather.Goals as goal
 
-pub into_seat-whole-requires-clause-idle : goal.into_seat-whole-requires-clause-idle
-into_seat-whole-requires-clause-idle g c κs within = (all_last (IsIdleSeat c.args.self.now) _ _ (subst (All (IsIdleSeat c.args.self.now)) (popped _ _ _ _ c.pop.ensures.items c.unwrap.ensures) c.requires.each)).idle
+pub into_seat-whole-requires : goal.into_seat-whole-requires
+into_seat-whole-requires g c = record { idle = (all_last (IsIdleSeat c.args.self.now) _ _ (subst (All (IsIdleSeat c.args.self.now)) (popped _ _ _ _ c.pop.ensures.items c.unwrap.ensures) c.requires.each)).idle }
 
 pub loop-seat-init : goal.loop-seat-init
 loop-seat-init g c =
@@ -21,16 +21,16 @@ loop-seat-init g c =
       all_before (IsIdleSeat c.args.self.now) _ _ all,
     )
 
-pub into_seat-requires-clause-idle : goal.into_seat-requires-clause-idle
-into_seat-requires-clause-idle g c κs within = (all_last (IsIdleSeat c.args.self.now) _ _ (subst (All (IsIdleSeat c.args.self.now)) (popped _ _ _ _ c.pop-in-loop-seat.ensures.items c.in-Some.is) c.loop-seat.invariant.3)).idle
+pub into_seat-requires : goal.into_seat-requires
+into_seat-requires g c = record { idle = (all_last (IsIdleSeat c.args.self.now) _ _ (subst (All (IsIdleSeat c.args.self.now)) (popped _ _ _ _ c.pop-in-loop-seat.ensures.items c.in-Some.is) c.loop-seat.invariant.3)).idle }
 
 pub join-requires-clause-same : goal.join-requires-clause-same
-join-requires-clause-same g c κs within =
+join-requires-clause-same g c =
     let last = all_last (IsIdleSeat c.args.self.now) _ _ (subst (All (IsIdleSeat c.args.self.now)) (popped _ _ _ _ c.pop-in-loop-seat.ensures.items c.in-Some.is) c.loop-seat.invariant.3) in
     (c.loop-seat.invariant.0, c.into_seat.ensures.table ∙ last.of_table.same)
 
 pub join-requires-clause-slots : goal.join-requires-clause-slots
-join-requires-clause-slots g c κs within = ap (λ m. m.1) c.into_seat.ensures.alone.2
+join-requires-clause-slots g c = ap (λ m. m.1) c.into_seat.ensures.alone.2
 
 pub loop-seat-preserved : goal.loop-seat-preserved
 loop-seat-preserved g c =

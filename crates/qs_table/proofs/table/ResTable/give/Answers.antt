@@ -4,7 +4,7 @@ use Rattle.qs_table.proofs.Given.{Giving, gave, giving_more}
 use Rattle.qs_table.proofs.table.ResTable.give.Goals as goal
 
 pub lower-requires-clause-within : goal.lower-requires-clause-within
-lower-requires-clause-within g c κs within = c.requires.cells (c.loop-k.k - 1) 0 (let a = c.requires.within.1 in let b = c.loop-k.invariant.2 in let t = c.loop-k-test.true in omega arith)
+lower-requires-clause-within g c = c.requires.cells (c.loop-k.k - 1) 0 (let a = c.requires.within.1 in let b = c.loop-k.invariant.2 in let t = c.loop-k-test.true in omega arith)
 
 pub loop-k-preserved : goal.loop-k-preserved
 loop-k-preserved g c = (

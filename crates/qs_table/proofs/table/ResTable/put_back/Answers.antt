@@ -9,12 +9,12 @@ use Rattle.qs_table.proofs.Sitting.{front_and_rest, same_plan, token_returned}
 use Rattle.qs_table.proofs.table.ResTable.put_back.Goals as goal
 
 pub bring-requires-clause-brought : goal.bring-requires-clause-brought
-bring-requires-clause-brought g c κs within =
+bring-requires-clause-brought g c =
     let was = subst (λ (t : TokenView _). IsBrought (g.W.Work.fits c.args.self.now.plan) g.W.Work.done t.view c.args.leaf c.args.block) (sym c.seat.view_is) c.requires.brought in
     subst (λ (v : SeatView). IsBrought (g.W.Work.fits c.args.self.now.plan) g.W.Work.done v c.args.leaf c.args.block) (sym c.take_up.ensures.knows) (brought_at_hand _ _ _ _ _ (Some c.args.leaf) was)
 
 pub bring-requires-clause-slot : goal.bring-requires-clause-slot
-bring-requires-clause-slot g c κs within = front_and_rest _ _ _ _ c.take_up.ensures.slots
+bring-requires-clause-slot g c = front_and_rest _ _ _ _ c.take_up.ensures.slots
 
 pub invariant_of-seat : goal.invariant_of-seat
 invariant_of-seat g c =

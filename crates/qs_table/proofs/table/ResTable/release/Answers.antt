@@ -6,7 +6,7 @@ use Rattle.qs_table.proofs.Sitting.{runs_whole, same_plan}
 use Rattle.qs_table.proofs.table.ResTable.release.Goals as goal
 
 pub finish-requires-clause-runs : goal.finish-requires-clause-runs
-finish-requires-clause-runs g c κs within =
+finish-requires-clause-runs g c =
     let W = g.W.Work in
     let plan = c.args.self.now.plan in
     let task = c.seat.inside.task in
@@ -16,7 +16,7 @@ finish-requires-clause-runs g c κs within =
     (task, whole.0 ∙ ap (λ ss. Some (record { task = task; leaves = []; successors = ss })) (sym successors))
 
 pub finish-requires-clause-within : goal.finish-requires-clause-within
-finish-requires-clause-within g c κs within =
+finish-requires-clause-within g c =
     let W = g.W.Work in
     let plan = c.args.self.now.plan in
     let task = c.seat.inside.task in

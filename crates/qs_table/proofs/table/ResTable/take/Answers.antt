@@ -17,10 +17,10 @@ loop-k-init g c = (
 )
 
 pub raise-seen-requires-clause-within : goal.raise-seen-requires-clause-within
-raise-seen-requires-clause-within g c κs within = c.line-line.ensures.cells c.loop-k.k 0 c.loop-k-test.true
+raise-seen-requires-clause-within g c = c.line-line.ensures.cells c.loop-k.k 0 c.loop-k-test.true
 
 pub give-requires-clause-newest : goal.give-requires-clause-newest
-give-requires-clause-newest g c κs within = stopped_newest _ _ _ _ _ c.loop-k.invariant.1 _ _ c.raise-seen.ensures.knows
+give-requires-clause-newest g c = stopped_newest _ _ _ _ _ c.loop-k.invariant.1 _ _ c.raise-seen.ensures.knows
 
 pub returns-then-seen-eq1-clause-tried : goal.returns-then-seen-eq1-clause-tried
 returns-then-seen-eq1-clause-tried g c =

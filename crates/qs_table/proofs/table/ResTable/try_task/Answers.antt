@@ -20,7 +20,7 @@ trying g c =
     }
 
 pub try_cell-answer-requires-clause-can : goal.try_cell-answer-requires-clause-can
-try_cell-answer-requires-clause-can g c κs within = can_first _ _ _ _ _ (trying g (goal.at.try_cell-answer-requires-clause-can g c).After-cells_of-first)
+try_cell-answer-requires-clause-can g c = can_first _ _ _ _ _ (trying g (goal.at.try_cell-answer-requires-clause-can g c).After-cells_of-first)
 
 pub returns-in-Busy-clause-tried : goal.returns-in-Busy-clause-tried
 returns-in-Busy-clause-tried g c =
@@ -38,10 +38,10 @@ pub returns-in_default-clause-locks : goal.returns-in_default-clause-locks
 returns-in_default-clause-locks g c = tried_first _ _ _ _ _ (trying g (goal.at.returns-in_default-clause-locks g c).After-cells_of-first) c.try_cell-answer.new.seat.view c.in-Got.ensures.one_lock
 
 pub try_cell-answer-requires-2-clause-can : goal.try_cell-answer-requires-2-clause-can
-try_cell-answer-requires-2-clause-can g c κs within = can_second _ _ _ _ _ (trying g (goal.at.try_cell-answer-requires-2-clause-can g c).After-cells_of-first) _ c.in-Got.ensures.tried _ c.in-Some.is
+try_cell-answer-requires-2-clause-can g c = can_second _ _ _ _ _ (trying g (goal.at.try_cell-answer-requires-2-clause-can g c).After-cells_of-first) _ c.in-Got.ensures.tried _ c.in-Some.is
 
 pub give_cell-requires-clause-can : goal.give_cell-requires-clause-can
-give_cell-requires-clause-can g c κs within = may_give_first _ _ _ _ _ (trying g (goal.at.give_cell-requires-clause-can g c).After-cells_of-first) _ c.in-Got.ensures.tried _ c.in-Some.is _ _ _ c.in-Busy-answer.ensures.tried
+give_cell-requires-clause-can g c = may_give_first _ _ _ _ _ (trying g (goal.at.give_cell-requires-clause-can g c).After-cells_of-first) _ c.in-Got.ensures.tried _ c.in-Some.is _ _ _ c.in-Busy-answer.ensures.tried
 
 pub returns-in-Busy-answer-clause-tried : goal.returns-in-Busy-answer-clause-tried
 returns-in-Busy-answer-clause-tried g c =

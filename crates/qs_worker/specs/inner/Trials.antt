@@ -1,0 +1,64 @@
+-- What a trial of tasks did to the seat that was lent to it.
+use Rattle.std.specs.Prelude.{◌≡◌, ℕ, ◌<◌, Bool, true, List, ◌∷◌, [], ◌++◌, Option, Some, None, MatchBool, count_by, drop, length}
+use Rattle.qs_core.specs.declared.event.Note.{Note}
+use Rattle.qs_core.specs.Shape.{Shape}
+use Rattle.qs_core.specs.Core.{empty_view}
+use Rattle.qs_table.specs.declared.view.SeatView.{SeatView}
+use Rattle.qs_table.specs.Notes.{is_claim}
+use Rattle.qs_table.specs.Seats.{IsSeatOf, TableView, TokenView}
+use Rattle.qs_queues.specs.declared.view.QueueNote.{QueueNote}
+use Rattle.qs_queues.specs.declared.view.QueueView.{QueueView}
+use Rattle.qs_queues.specs.Views.{with_notes}
+use Rattle.qs_worker.specs.Looks.{Found}
+use Rattle.qs_worker.specs.Refusals.{WasRefused}
+use Rattle.qs_worker.specs.inner.Claimed.{claimed_view}
+use Rattle.qs_worker.specs.inner.Leaves.{GrewQuietly}
+
+-- the notes since there were others
+abbrev pub since : List Note → List Note → List Note
+since before after = drop (length before) after
+
+-- a task was taken: the seat owns just its cells, and runs it with all its leaves and successors left; the notes end with the claim, which is the seat's first of that task
+pub record HasTaken (shape : Shape) (task : ℕ) (start now : SeatView) : Type 0 where
+  pub is_task : task < length shape.tasks
+  pub holds : now.holds ≡ claimed_view shape task
+  pub new : count_by (is_claim task) start.notes ≡ 0
+  pub front : List Note
+  pub claim : Note
+  pub is : now.notes ≡ start.notes ++ (front ++ claim ∷ [])
+  pub claims : is_claim task claim ≡ true
+
+-- a task was tried: it was taken, or else the seat holds nothing, and the further notes show why it couldn't be claimed
+pub record WasTried (shape : Shape) (task : ℕ) (before : SeatView) (taken : Bool) (after : SeatView) : Type 0 where
+  pub place : after.place ≡ before.place
+  pub grown : GrewQuietly before.notes after.notes
+  pub outcome : MatchBool taken (HasTaken shape task before after) ((after.holds ≡ empty_view) × WasRefused shape grown.further task)
+
+-- what a trial did to the view of its seat, which held nothing at the start: while it has taken nothing the seat holds nothing, and there are just further notes
+pub record IsTrying (shape : Shape) (start now : SeatView) (taken : Option ℕ) : Type 0 where
+  pub place : now.place ≡ start.place
+  pub grown : GrewQuietly start.notes now.notes
+  pub none : taken ≡ None → now.holds ≡ empty_view
+  pub some : (task : ℕ) → taken ≡ Some task → HasTaken shape task start now
+
+-- a trial: its table, the plan of its work, the view of the seat that was lent to it, the seat as it now is and the name of the loan, and what was taken
+pub record TrialView (P : Type 0) : Type 0 where
+  pub table : TableView P
+  pub plan : P
+  pub start : SeatView
+  pub now : TokenView P
+  pub name : ℕ
+  pub taken : Option ℕ
+
+-- the lent seat is one of the table, whose plan is the work's
+pub record IsTrial {P : Type 0} (shape : P → Shape) (t : TrialView P) : Type 0 where
+  pub same : t.plan ≡ t.table.plan
+  pub seated : IsSeatOf t.table t.now
+  pub trying : IsTrying (shape t.table.plan) t.start t.now.view t.taken
+
+-- what a look at the queues left: further notes of both seats, which show what was found, and the seat runs the task that was
+pub record HasLooked (shape : Shape) (queues own : ℕ) (before : SeatView) (queue_before : QueueView) (found : Option ℕ) (after : SeatView) (queue_after : QueueView) : Type 0 where
+  pub trying : IsTrying shape before after found
+  pub notes : List QueueNote
+  pub queue_notes : queue_after ≡ with_notes queue_before notes
+  pub shown : Found (WasRefused shape trying.grown.further) queues own found notes
