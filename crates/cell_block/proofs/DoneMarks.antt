@@ -7,7 +7,7 @@ use Rattle.std.proofs.lemmas.Bool.Decides.{Decides-and, Decides-eqb}
 use Rattle.std.proofs.lemmas.List.{append-nil, drop_all, get_or_default, take_all}
 use Rattle.std.proofs.lemmas.List.Edits.{map_over_more}
 use Rattle.lists.proofs.Elements.{Contains-filter, Contains-from_filter, Contains-head, Contains-later, Contains-map, Contains-nil, cases_Contains-cons, passes_from_filter}
-use Rattle.cell_block.specs.declared.block.Mark.{Mark}
+use Rattle.cell_block.specs.declared.rows.Mark.{Mark}
 use Rattle.cell_block.specs.Blocks.{AreDoneWith}
 use Rattle.cell_block.specs.Reading.{with_done}
 use Rattle.cell_block.proofs.Done.{Contains-from_list_any, list_any-from_Contains}

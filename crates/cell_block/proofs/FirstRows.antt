@@ -1,22 +1,27 @@
 -- Before any task is done a block holds what the content says.
-use Rattle.std.proofs.Common.{◌≡◌, ℕ, ◌+◌, ◌&&◌, Bool, true, false, cond, List, [], ◌∷◌, ◌++◌, map, filter, length, refl, ap, sym, ◌∙◌, arith}
+use Rattle.std.proofs.Common.{◌≡◌, ℕ, ◌+◌, ◌<◌, ◌&&◌, Bool, true, false, cond, List, [], ◌∷◌, ◌++◌, map, filter, length, get_or, All, refl, ap, sym, ◌∙◌, arith}
 use Rattle.std.specs.List.{range_with_len}
 use Rattle.std.proofs.lemmas.List.{append-nil}
-use Rattle.std.proofs.lemmas.List.Elements.{filter-append}
+use Rattle.std.proofs.lemmas.List.Elements.{All-map, filter-append}
 use Rattle.lists.proofs.Ranges.{range_push}
 use Rattle.sph_num.specs.declared.kind.Kind.{Kind}
 use Rattle.sph_num.specs.declared.kind.Kind.TheVariants.{Density, Force}
 use Rattle.sph_num.specs.declared.particle.Particle.{Particle}
 use Rattle.sph_num.specs.Density.{density_of}
 use Rattle.sph_num.specs.Force.{force_of}
+use Rattle.sph_num.specs.Space.{IsPlace}
+use Rattle.sph_num.proofs.Drifts.{IsPlace-position_of}
 use Rattle.sph_bins.specs.Kick.{ghost_at}
-use Rattle.cell_block.specs.declared.block.Block.{Block}
-use Rattle.cell_block.specs.declared.block.Mark.{Mark}
+use Rattle.cell_block.specs.declared.rows.BlockRows.{BlockRows}
+use Rattle.cell_block.specs.declared.rows.Mark.{Mark}
+use Rattle.cell_block.specs.declared.rows.Spot.{Spot}
 use Rattle.cell_block.specs.declared.scene.Scene.{Scene}
 use Rattle.cell_block.specs.Blocks.{Agrees, HoldsRows, done_of, pull_of, rest_of, spot_of, tasks_at}
 use Rattle.cell_block.specs.Content.{Row, content, met, row_of, summed_in}
-use Rattle.cell_block.specs.Scene.{is_due_at, members_of, particle_at, place_of}
+use Rattle.cell_block.specs.Extents.{AreWithin, HavePlaces}
+use Rattle.cell_block.specs.Scene.{IsGoodScene, is_due_at, members_of, particle_at, place_of}
 use Rattle.cell_block.specs.inner.Beginning.{first_force, first_pull, first_rho, first_spot, not_done}
+use Rattle.cell_block.proofs.Ranges.{sound_at}
 
 -- one function after another on a list
 pub map-map : {X Y Z : Type 0} (f : Y → Z) (g : X → Y) (h : X → Z) → ((x : X) → f (g x) ≡ h x) → (xs : List X) → map f (map g xs) ≡ map h xs
@@ -82,6 +87,18 @@ row_force scene leaf i =
 row_rest : (scene : Scene) (leaf i : ℕ) → rest_of (row_of scene leaf [] i).particle ≡ rest_of (particle_at scene i)
 row_rest scene leaf i = alike rest_of (is_due_at scene i) (summed_in scene leaf [] i) (particle_at scene i) refl
 
+-- its members have places
+place_either : (b : Bool) (x y : List ℕ) → IsPlace x → IsPlace y → IsPlace (cond b x y)
+place_either true x y first second = first
+place_either false x y first second = second
+
+pub first_places : (scene : Scene) (members : List ℕ) → IsGoodScene scene → All (λ i. i < length scene.start) members → HavePlaces (map (first_spot scene) members)
+first_places scene members good within =
+    All-map (λ (spot : Spot). IsPlace spot.place) (first_spot scene) members
+    (λ k d inside.
+    let p = particle_at scene (get_or members k d) in
+    place_either scene.drift p.x0 (place_of scene p) (sound_at scene (get_or members k d) good (within k d inside)).place (IsPlace-position_of scene.params.shift scene.tick p))
+
 -- the marks of tasks of which none is done
 unmarked_tasks : (tasks : List ℕ) → map (λ (m : Mark). m.task) (map not_done tasks) ≡ tasks
 unmarked_tasks [] = refl
@@ -92,12 +109,12 @@ none_done [] = refl
 none_done (task ∷ tasks) = none_done tasks
 
 -- what the lists of a block at its beginning say of it
-pub begins : (scene : Scene) (leaf : ℕ) (block : Block) → block.leaf ≡ leaf → block.members.items ≡ members_of scene leaf → block.marks.items ≡ map not_done (tasks_at scene leaf)
+pub begins : (scene : Scene) (leaf : ℕ) (block : BlockRows) → block.leaf ≡ leaf → block.members.items ≡ members_of scene leaf → block.marks.items ≡ map not_done (tasks_at scene leaf)
     → block.spots.items ≡ map (first_spot scene) block.members.items → block.pulls.items ≡ map (first_pull scene) block.members.items
     → block.due.items ≡ map (is_due_at scene) block.members.items → block.rhos.items ≡ map (first_rho scene) block.members.items
-    → block.forces.items ≡ map (first_force scene) block.members.items → block.particles.items ≡ map (particle_at scene) block.members.items
+    → block.forces.items ≡ map (first_force scene) block.members.items → block.particles.items ≡ map (particle_at scene) block.members.items → AreWithin block.extent block.spots.items
     → Agrees scene leaf block × (done_of block ≡ [])
-begins scene leaf block number members marks spots pulls due rhos forces particles =
+begins scene leaf block number members marks spots pulls due rhos forces particles within =
     let none : done_of block ≡ [] = ap (λ ms. map (λ (m : Mark). m.task) (filter (λ (m : Mark). m.done) ms)) marks ∙ none_done (tasks_at scene leaf) in
     let all = members_of scene leaf in
     let row = row_of scene leaf [] in
@@ -115,6 +132,7 @@ begins scene leaf block number members marks spots pulls due rhos forces particl
         due = due ∙ ap (map (is_due_at scene)) members;
         tasks = ap (map (λ (m : Mark). m.task)) marks ∙ unmarked_tasks (tasks_at scene leaf);
         rows = rw none rows;
+        extent = within;
       },
       none,
     )

@@ -1,4 +1,5 @@
 pub mod Ranges
+pub mod Boxes
 pub mod FirstRows
 pub mod TaskLists
 pub mod Done

@@ -10,7 +10,7 @@ use Rattle.lists.proofs.Ranges.{Contains-numbers}
 use Rattle.sph_num.specs.declared.kind.Kind.{Kind}
 use Rattle.sph_num.specs.declared.kind.Kind.TheVariants.{Drift, Density, Ghost, Force, Kick}
 use Rattle.sph_num.specs.Kinds.{same_kind, waits_for}
-use Rattle.cell_block.specs.declared.block.Block.{Block}
+use Rattle.cell_block.specs.declared.rows.BlockRows.{BlockRows}
 use Rattle.cell_block.specs.declared.scene.Scene.{Scene}
 use Rattle.cell_block.specs.declared.scene.TaskLine.{TaskLine}
 use Rattle.cell_block.specs.Blocks.{IsReady, done_of}
@@ -153,7 +153,7 @@ pub task_by : (scene : Scene) (line : TaskLine) (is : IsNumbered scene line) →
 task_by scene line is = record { number = is.within; is_kind = kind_by scene line is }
 
 -- every task of a kind for which this one waits is done on its leaf
-pub all_done : (scene : Scene) (kind kind' : Kind) (task leaf : ℕ) (block : Block) → IsTask scene kind' task → waits_for kind' kind ≡ true → touches (line_at scene task) leaf ≡ true → IsReady scene task leaf block → AllDone scene kind leaf (done_of block)
+pub all_done : (scene : Scene) (kind kind' : Kind) (task leaf : ℕ) (block : BlockRows) → IsTask scene kind' task → waits_for kind' kind ≡ true → touches (line_at scene task) leaf ≡ true → IsReady scene task leaf block → AllDone scene kind leaf (done_of block)
 all_done scene kind kind' task leaf block is waits touched ready =
     λ earlier within same here. ready.before earlier ([], edge scene earlier task leaf kind kind' (record { number = within; is_kind = same }) is waits here touched) here
 
@@ -186,7 +186,7 @@ pub record IsBefore (scene : Scene) (kind : Kind) (leaf task : ℕ) : Type 0 whe
   pub precedes : LinePrecedes scene earlier task
 
 -- so it is done on the block
-pub done_before : (scene : Scene) (kind : Kind) (leaf task : ℕ) (block : Block) → IsBefore scene kind leaf task → IsReady scene task leaf block → is_done_on scene kind leaf (done_of block) ≡ true
+pub done_before : (scene : Scene) (kind : Kind) (leaf task : ℕ) (block : BlockRows) → IsBefore scene kind leaf task → IsReady scene task leaf block → is_done_on scene kind leaf (done_of block) ≡ true
 done_before scene kind leaf task block before ready =
     let line = line_at scene before.earlier in
     let touched : touches line leaf ≡ true = ap (λ (l : TaskLine). touches l leaf) before.is ∙ touches_own kind leaf in

@@ -8,8 +8,8 @@ use Rattle.sph_num.specs.Density.{density_of}
 use Rattle.sph_num.specs.Force.{force_of}
 use Rattle.sph_num.specs.Pull.{Puller, puller}
 use Rattle.sph_bins.specs.Kick.{ghost_at, kicked}
-use Rattle.cell_block.specs.declared.block.Block.{Block}
-use Rattle.cell_block.specs.declared.block.Spot.{Spot}
+use Rattle.cell_block.specs.declared.rows.BlockRows.{BlockRows}
+use Rattle.cell_block.specs.declared.rows.Spot.{Spot}
 use Rattle.cell_block.specs.declared.scene.Scene.{Scene}
 use Rattle.cell_block.specs.Blocks.{HoldsRows, pull_of, rest_of, spot_of}
 use Rattle.cell_block.specs.Content.{Row, content, is_done_on, met, row_of, summed_in}
@@ -90,14 +90,14 @@ where_drifted true true x y is = refl
 where_drifted true false x y is = absurd (both_ways false refl (is refl))
 
 -- what the lists of a block hold, where a drift, a ghost and a kick are done or not, by whom each member met in densities and in forces
-pub record HoldsParts (scene : Scene) (leaf : ℕ) (drifted made kicks : Bool) (in_densities in_forces : ℕ → List Particle) (block : Block) : Type 0 where
+pub record HoldsParts (scene : Scene) (leaf : ℕ) (drifted made kicks : Bool) (in_densities in_forces : ℕ → List Particle) (block : BlockRows) : Type 0 where
   pub spots : block.spots.items ≡ map (spot_with scene drifted) (members_of scene leaf)
   pub pulls : block.pulls.items ≡ map (pull_with scene made) (members_of scene leaf)
   pub rhos : block.rhos.items ≡ map (λ i. rho_with scene (in_densities i) i) (members_of scene leaf)
   pub forces : block.forces.items ≡ map (λ i. force_with scene (in_forces i) i) (members_of scene leaf)
   pub particles : map rest_of block.particles.items ≡ map (rest_with scene kicks) (members_of scene leaf)
 
-pub parts_held : (scene : Scene) (leaf : ℕ) (done : List ℕ) (block : Block) → HoldsRows block (content scene leaf done)
+pub parts_held : (scene : Scene) (leaf : ℕ) (done : List ℕ) (block : BlockRows) → HoldsRows block (content scene leaf done)
     → HoldsParts scene leaf (is_done_on scene Drift leaf done) (is_done_on scene Ghost leaf done) (is_done_on scene Kick leaf done) (λ i. met scene Density done i) (λ i. met scene Force done i) block
 parts_held scene leaf done block rows =
     let ms = members_of scene leaf in
@@ -118,7 +118,7 @@ pub record AreDone (scene : Scene) (leaf : ℕ) (done : List ℕ) (drifted made 
   pub densities : (i : ℕ) → met scene Density done i ≡ in_densities i
   pub forces : (i : ℕ) → met scene Force done i ≡ in_forces i
 
-pub rows_held : (scene : Scene) (leaf : ℕ) (drifted made kicks : Bool) (in_densities in_forces : ℕ → List Particle) (done : List ℕ) (block : Block) → AreDone scene leaf done drifted made kicks in_densities in_forces
+pub rows_held : (scene : Scene) (leaf : ℕ) (drifted made kicks : Bool) (in_densities in_forces : ℕ → List Particle) (done : List ℕ) (block : BlockRows) → AreDone scene leaf done drifted made kicks in_densities in_forces
     → HoldsParts scene leaf drifted made kicks in_densities in_forces block → HoldsRows block (content scene leaf done)
 rows_held scene leaf drifted made kicks in_densities in_forces done block are parts =
     let ms = members_of scene leaf in

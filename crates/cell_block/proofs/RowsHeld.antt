@@ -5,15 +5,15 @@ use Rattle.std.proofs.lemmas.List.{get_or-map, length-map}
 use Rattle.sph_num.specs.declared.particle.Particle.{Particle}
 use Rattle.sph_num.specs.Pull.{Puller, puller}
 use Rattle.sph_num.specs.Totals.{zero_vector}
-use Rattle.cell_block.specs.declared.block.Block.{Block}
-use Rattle.cell_block.specs.declared.block.Spot.{Spot}
+use Rattle.cell_block.specs.declared.rows.BlockRows.{BlockRows}
+use Rattle.cell_block.specs.declared.rows.Spot.{Spot}
 use Rattle.cell_block.specs.declared.scene.Scene.{Scene}
 use Rattle.cell_block.specs.Blocks.{Agrees, HoldsRows, done_of, pull_of, rest_of, spot_of}
 use Rattle.cell_block.specs.Content.{Row, content, row_of}
 use Rattle.cell_block.specs.Reading.{IsWhole, member_of, place_of_member}
 use Rattle.cell_block.specs.Scene.{is_due_at, members_of, no_particle}
 
-pub IsWhole-from_agrees : (scene : Scene) (leaf : ℕ) (block : Block) → Agrees scene leaf block → IsWhole block
+pub IsWhole-from_agrees : (scene : Scene) (leaf : ℕ) (block : BlockRows) → Agrees scene leaf block → IsWhole block
 IsWhole-from_agrees scene leaf block agrees =
     let members = members_of scene leaf in
     let rows = content scene leaf (done_of block) in
@@ -39,7 +39,7 @@ with_its_own kept row rho pull f rest density puller force =
     ∙ ap (λ (x : Puller). with_sums (rest_of row.particle) row.particle.rho x.g f) puller
     ∙ ap (λ x. with_sums (rest_of row.particle) row.particle.rho row.particle.g x) force
 
-pub member_is : (block : Block) (rows : List Row) (k : ℕ) (d : Row) → HoldsRows block rows → k < length rows → member_of block k ≡ (get_or rows k d).particle
+pub member_is : (block : BlockRows) (rows : List Row) (k : ℕ) (d : Row) → HoldsRows block rows → k < length rows → member_of block k ≡ (get_or rows k d).particle
 member_is block rows k d holds inside =
     let kept : k < length block.particles.items = (let e = ap length holds.particles in omega (arith, e, length-map block.particles.items rest_of, length-map rows (λ (r : Row). rest_of r.particle))) in
     with_its_own (get_or block.particles.items k no_particle) (get_or rows k d) (get_or block.rhos.items k 0) (get_or block.pulls.items k (puller 0 0 0)) (get_or block.forces.items k zero_vector)
@@ -48,7 +48,7 @@ member_is block rows k d holds inside =
     (ap (λ xs. get_or xs k (puller 0 0 0)) holds.pulls ∙ get_or-map pull_of rows k d (puller 0 0 0) inside)
     (ap (λ xs. get_or xs k zero_vector) holds.forces ∙ get_or-map (λ (r : Row). r.particle.f) rows k d zero_vector inside)
 
-pub place_is : (block : Block) (rows : List Row) (k : ℕ) (d : Row) → HoldsRows block rows → k < length rows → place_of_member block k ≡ (get_or rows k d).place
+pub place_is : (block : BlockRows) (rows : List Row) (k : ℕ) (d : Row) → HoldsRows block rows → k < length rows → place_of_member block k ≡ (get_or rows k d).place
 place_is block rows k d holds inside =
     let none : Spot = record { place = []; h = 0 } in
     ap (λ (spots : List Spot). (get_or spots k none).place) holds.spots ∙ ap (λ (s : Spot). s.place) (get_or-map spot_of rows k d none inside)

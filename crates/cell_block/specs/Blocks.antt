@@ -4,15 +4,16 @@ use Rattle.std.specs.List.{range_with_len}
 use Rattle.sph_num.specs.declared.particle.Particle.{Particle}
 use Rattle.sph_num.specs.Pull.{Puller, puller}
 use Rattle.sph_num.specs.Totals.{zero_vector}
-use Rattle.cell_block.specs.declared.block.Block.{Block}
-use Rattle.cell_block.specs.declared.block.Mark.{Mark}
-use Rattle.cell_block.specs.declared.block.Spot.{Spot}
+use Rattle.cell_block.specs.declared.rows.BlockRows.{BlockRows}
+use Rattle.cell_block.specs.declared.rows.Mark.{Mark}
+use Rattle.cell_block.specs.declared.rows.Spot.{Spot}
 use Rattle.cell_block.specs.declared.scene.Scene.{Scene}
 use Rattle.cell_block.specs.Content.{Row, content}
+use Rattle.cell_block.specs.Extents.{AreWithin}
 use Rattle.cell_block.specs.Scene.{LinePrecedes, is_due_at, line_at, members_of, touches}
 
 -- the tasks that are done on a block
-abbrev pub done_of : Block → List ℕ
+abbrev pub done_of : BlockRows → List ℕ
 done_of block = map (λ (m : Mark). m.task) (filter (λ (m : Mark). m.done) block.marks.items)
 
 -- a task more is done
@@ -30,7 +31,7 @@ abbrev pub rest_of : Particle → Particle
 rest_of particle = record particle { rho = 0; g = 0; f = zero_vector }
 
 -- the block's flat lists hold these rows
-pub record HoldsRows (block : Block) (rows : List Row) : Type 0 where
+pub record HoldsRows (block : BlockRows) (rows : List Row) : Type 0 where
   pub spots : block.spots.items ≡ map spot_of rows
   pub pulls : block.pulls.items ≡ map pull_of rows
   pub rhos : block.rhos.items ≡ map (λ (row : Row). row.particle.rho) rows
@@ -41,30 +42,32 @@ pub record HoldsRows (block : Block) (rows : List Row) : Type 0 where
 abbrev pub tasks_at : Scene → ℕ → List ℕ
 tasks_at scene leaf = filter (λ task. touches (line_at scene task) leaf) (range_with_len 0 (length scene.tasks))
 
--- a block agrees with a scene at a leaf: it is the leaf's, keeps the tasks that touch it, and holds what the scene gives for the done ones
-pub record Agrees (scene : Scene) (leaf : ℕ) (block : Block) : Type 0 where
+-- a block agrees with a scene at a leaf: it is the leaf's, keeps the tasks that touch it, holds what the scene gives for the done ones,
+-- and keeps a box in which its members stand
+pub record Agrees (scene : Scene) (leaf : ℕ) (block : BlockRows) : Type 0 where
   pub number : block.leaf ≡ leaf
   pub members : block.members.items ≡ members_of scene leaf
   pub due : block.due.items ≡ map (is_due_at scene) (members_of scene leaf)
   pub tasks : map (λ (m : Mark). m.task) block.marks.items ≡ tasks_at scene leaf
   pub rows : HoldsRows block (content scene leaf (done_of block))
+  pub extent : AreWithin block.extent block.spots.items
 
 -- the block is ready for a task: it agrees, hasn't the task done, and has done every task before it that touches the leaf
-pub record IsReady (scene : Scene) (task leaf : ℕ) (block : Block) : Type 0 where
+pub record IsReady (scene : Scene) (task leaf : ℕ) (block : BlockRows) : Type 0 where
   pub agrees : Agrees scene leaf block
   pub not_done : Contains (done_of block) task → ⊥
   pub before : (earlier : ℕ) → LinePrecedes scene earlier task → touches (line_at scene earlier) leaf ≡ true → Contains (done_of block) earlier
 
 -- the task was added to those that are done, and nothing else changed: the block agrees again
-pub record IsAdded (scene : Scene) (task leaf : ℕ) (before after : Block) : Type 0 where
+pub record IsAdded (scene : Scene) (task leaf : ℕ) (before after : BlockRows) : Type 0 where
   pub agrees : Agrees scene leaf after
   pub tasks : AreDoneWith (done_of before) task (done_of after)
 
 -- the same of the blocks of a range of leaves, in order
-pub record AreReady (scene : Scene) (task : ℕ) (range : ℕ × ℕ) (blocks : List Block) : Type 0 where
+pub record AreReady (scene : Scene) (task : ℕ) (range : ℕ × ℕ) (blocks : List BlockRows) : Type 0 where
   pub one_each : length blocks ≡ range.1 - range.0
-  pub ready : (k : ℕ) (d : Block) → k < length blocks → IsReady scene task (range.0 + k) (get_or blocks k d)
+  pub ready : (k : ℕ) (d : BlockRows) → k < length blocks → IsReady scene task (range.0 + k) (get_or blocks k d)
 
-pub record AreAdded (scene : Scene) (task : ℕ) (range : ℕ × ℕ) (before after : List Block) : Type 0 where
+pub record AreAdded (scene : Scene) (task : ℕ) (range : ℕ × ℕ) (before after : List BlockRows) : Type 0 where
   pub one_each : length after ≡ length before
-  pub added : (k : ℕ) (d : Block) → k < length before → IsAdded scene task (range.0 + k) (get_or before k d) (get_or after k d)
+  pub added : (k : ℕ) (d : BlockRows) → k < length before → IsAdded scene task (range.0 + k) (get_or before k d) (get_or after k d)

@@ -1,4 +1,5 @@
 pub mod Scene
+pub mod Extents
 pub mod Content
 pub mod Blocks
 pub mod Reading

@@ -3,12 +3,12 @@ use Rattle.std.specs.Prelude.{◌≡◌, ℕ, ◌==◌, true, if◌then◌else�
 use Rattle.sph_num.specs.declared.particle.Particle.{Particle}
 use Rattle.sph_num.specs.Pull.{puller}
 use Rattle.sph_num.specs.Totals.{zero_vector}
-use Rattle.cell_block.specs.declared.block.Block.{Block}
-use Rattle.cell_block.specs.declared.block.Mark.{Mark}
+use Rattle.cell_block.specs.declared.rows.BlockRows.{BlockRows}
+use Rattle.cell_block.specs.declared.rows.Mark.{Mark}
 use Rattle.cell_block.specs.Scene.{no_particle}
 
 -- each list of the block has an element for each member
-pub record IsWhole (block : Block) : Type 0 where
+pub record IsWhole (block : BlockRows) : Type 0 where
   pub spots : length block.spots.items ≡ length block.members.items
   pub pulls : length block.pulls.items ≡ length block.members.items
   pub due : length block.due.items ≡ length block.members.items
@@ -17,11 +17,11 @@ pub record IsWhole (block : Block) : Type 0 where
   pub particles : length block.particles.items ≡ length block.members.items
 
 -- where the member at a place of the leaf stands
-abbrev pub place_of_member : Block → ℕ → List ℕ
+abbrev pub place_of_member : BlockRows → ℕ → List ℕ
 place_of_member block k = (slice_index_or block.spots.items k (record { place = []; h = 0 })).place
 
 -- the member, with the density, the ghost and the force that stand in the lists
-abbrev pub member_of : Block → ℕ → Particle
+abbrev pub member_of : BlockRows → ℕ → Particle
 member_of block k = record (slice_index_or block.particles.items k no_particle) {
   rho = slice_index block.rhos.items k;
   g = (slice_index_or block.pulls.items k (puller 0 0 0)).g;
@@ -29,7 +29,7 @@ member_of block k = record (slice_index_or block.particles.items k no_particle) 
 }
 
 -- the tasks that the block keeps
-abbrev pub tasks_of : Block → List ℕ
+abbrev pub tasks_of : BlockRows → List ℕ
 tasks_of block = map (λ (m : Mark). m.task) block.marks.items
 
 -- a mark, where a task is done

@@ -4,7 +4,7 @@ ghost use Rattle.cell_block.specs.Blocks.{tasks_at};
 ghost use Rattle.cell_block.specs.Scene.{IsGoodScene, is_due_at, is_in, particle_at, touches};
 ghost use Rattle.cell_block.specs.inner.Beginning.{first_force, first_pull, first_rho, first_spot, not_done};
 
-use crate::block::{Mark, Spot};
+use crate::rows::{Mark, Spot};
 use crate::scene::{Scene, TaskLine};
 use sph_bins::due;
 use sph_num::{Length, Particle, Pull};

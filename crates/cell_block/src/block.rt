@@ -1,56 +1,35 @@
-//! The particles of a leaf during a step.
+//! A block behind one pointer.
 ghost use Rattle.std.specs.Prelude.{◌≡◌, ◌<◌, [], length, IfOk};
+ghost use Rattle.std.specs.Borrow.{Lends, sem};
 ghost use Rattle.cell_block.specs.Blocks.{Agrees, done_of, tasks_at};
-ghost use Rattle.cell_block.specs.Scene.{IsGoodScene, members_of};
+ghost use Rattle.cell_block.specs.Scene.{IsGoodScene};
+ghost use Rattle.cell_block.specs.contracts.rows.BlockRows.{the_row as block_row};
+ghost use Rattle.cell_block.specs.contracts.block.Block.{the_row};
 
 use crate::beginning;
+use crate::rows::BlockRows;
 use crate::scene::Scene;
-use sph_num::{Particle, Pull};
 use std::alloc::{AllocError, Global};
+use std::marker::Model;
+use std::ops::{Deref, DerefMut};
 
-/// Where a member is and how far it reaches: all that the test of a pair's distance reads, in 16 bytes.
-#[derive(Clone, Copy, Debug)]
-pub struct Spot {
-    /// In length units.
-    pub place: [u32; 3],
-    /// The smoothing length, in length units.
-    pub h: u32,
-}
-
-/// A task that touches the block's leaf, and whether it is done there.
-#[derive(Clone, Copy, Debug)]
-pub struct Mark {
-    pub task: u32,
-    pub done: bool,
-}
-
-/// The particles of a leaf with the tasks that are done on it. What a pair of members reads stands in flat
-/// lists of its own, with an element for each member in the order of the leaf.
+/// A block behind one pointer, so that it is moved as cheaply as a number. Contracts see it as the block.
 #[derive(Debug, Drop)]
 pub struct Block {
-    /// The leaf's number.
-    pub leaf: u32,
-    /// The members by their indices from 0, rising.
-    pub members: Vec<u32>,
-    /// The tasks that touch the leaf, rising.
-    pub marks: Vec<Mark>,
-    pub spots: Vec<Spot>,
-    /// What a member gives to the forces of its pairs: length, mass and ghost.
-    pub pulls: Vec<Pull>,
-    /// Whether a member is due at the tick.
-    pub due: Vec<bool>,
-    /// The densities: of a due member as far as it is summed.
-    pub rhos: Vec<u64>,
-    /// The forces: of a due member as far as they are summed.
-    pub forces: Vec<[i128; 3]>,
-    /// What only a kick reads and writes. The densities, ghosts and forces in here mean nothing: these stand in
-    /// the lists above.
-    pub particles: Vec<Particle>,
+    block: Box<BlockRows>,
+}
+
+impl Model for Block {
+    ghost use Rattle.cell_block.specs.declared.rows.BlockRows.{BlockRows};
+
+    ghost Value = { BlockRows };
+
+    ghost view = { λ boxed. boxed.block.value };
 }
 
 impl Block {
     /// The leaf's particles before any task is done on it. Where the scene asks no drift they stand at their
-    /// places at the tick, else at those of their last kicks.
+    /// places at the tick, else at those of their last kicks. The error is want of memory.
     pub fn make(alloc: Global, scene: &Scene, leaf: u32) -> Result<Block, AllocError>
         requires scene { IsGoodScene scene.now }
         requires leaf { leaf < length scene.now.leaves }
@@ -72,26 +51,40 @@ impl Block {
         requires tasks { tasks.now ≡ tasks_at scene.now leaf }
         ensures { IfOk result (λ block. Agrees scene.now leaf block × (done_of block ≡ [])) }
     {
-        let members = members_of(alloc, scene, leaf)?;
-        Ok(Block {
-            leaf,
-            marks: beginning::marks(alloc, tasks)?,
-            spots: beginning::spots(alloc, scene, &members)?,
-            pulls: beginning::pulls(alloc, scene, &members)?,
-            due: beginning::dues(alloc, scene, &members)?,
-            rhos: beginning::rhos(alloc, scene, &members)?,
-            forces: beginning::forces(alloc, scene, &members)?,
-            particles: beginning::particles(alloc, scene, &members)?,
-            members,
-        })
+        let rows = BlockRows::with_tasks(alloc, scene, leaf, tasks)?;
+        Block::new(alloc, rows)
+    }
+
+    /// Puts a block behind a pointer.
+    fn new(alloc: Global, block: BlockRows) -> Result<Block, AllocError>
+        ensures { IfOk result (λ boxed. boxed ≡ block) }
+    {
+        let block = Box::new(alloc, block)?;
+        Ok(Block { block })
     }
 }
 
-/// The members of a leaf, as a list of its own.
-fn members_of(alloc: Global, scene: &Scene, leaf: u32) -> Result<Vec<u32>, AllocError>
-    requires { leaf < length scene.now.leaves }
-    ensures { IfOk result (λ v. v.items ≡ members_of scene.now leaf) }
-{
-    let members = scene.leaves.as_slice()[leaf as usize].as_slice();
-    members.iter().copied().collect(alloc)
+impl Deref for Block {
+    type Target = BlockRows;
+
+    ghost deref_gives = { λ boxed block. block ≡ boxed };
+
+    #[inline]
+    fn deref(&self) -> &BlockRows
+        ensures { result.now ≡ self.now }
+    {
+        &self.block
+    }
+}
+
+impl DerefMut for Block {
+    ghost deref_mut_gives = { λ boxed block. block ≡ boxed };
+
+    #[inline]
+    fn deref_mut(&mut self) -> &mut BlockRows
+        ensures value { result.now ≡ self.old }
+        ensures* writes_back { sem 𝓛 (Lends the_row block_row self.entry result (λ block. block)) }
+    {
+        &mut self.block
+    }
 }

@@ -3,18 +3,20 @@
 
 mod beginning;
 mod block;
-mod boxed;
+mod extent;
 mod flat;
 mod laws;
 mod reading;
+mod rows;
 mod scene;
 mod threads;
 mod touching;
 
-pub use block::{Block, Mark, Spot};
-pub use boxed::BoxedBlock;
+pub use block::Block;
+pub use extent::{Extent, Interval};
 pub use flat::Flat;
 pub use laws::sums_are_whole;
+pub use rows::{BlockRows, Mark, Spot};
 pub use scene::{LeafList, LeafMembers, LineList, Scene, TaskLine};
 pub use threads::{block_is_sent, scene_is_sync};
 pub use touching::tasks_by_leaf;

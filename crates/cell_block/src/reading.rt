@@ -5,10 +5,10 @@ ghost use Rattle.cell_block.specs.Blocks.{done_of};
 ghost use Rattle.cell_block.specs.Reading.{IsWhole, member_of, place_of_member, tasks_of};
 ghost use Rattle.cell_block.specs.Tasks.{IsMarked};
 
-use crate::block::{Block, Mark};
+use crate::rows::{BlockRows, Mark};
 use sph_num::Particle;
 
-impl Block {
+impl BlockRows {
     /// Whether the task is done on the block.
     pub fn is_done(&self, task: u32) -> bool
         ensures { MatchBool result (Contains (done_of self.now) task) (Contains (done_of self.now) task → ⊥) }
@@ -56,8 +56,7 @@ impl Block {
 
     /// Marks a task as done.
     pub fn mark(&mut self, task: u32)
-        requires kept { Contains (tasks_of self.old) task }
-        requires not_done { Contains (done_of self.old) task → ⊥ }
+        requires { Contains (tasks_of self.old) task }
         ensures { IsMarked task self.old self.new }
     {
         for mark in self.marks.iter_mut() {

@@ -1,5 +1,5 @@
 //! Threads may share a scene, and a block may go to another thread.
-use crate::boxed::BoxedBlock;
+use crate::block::Block;
 use crate::scene::Scene;
 
 fn needs_sync<T: Sync>(_value: &T) {}
@@ -14,6 +14,6 @@ pub fn scene_is_sync(scene: &Scene) {
 }
 
 /// A block may go to another thread.
-pub fn block_is_sent(block: BoxedBlock) {
+pub fn block_is_sent(block: Block) {
     needs_send(block);
 }

@@ -1,5 +1,5 @@
 //! The tasks that touch each leaf, of all leaves in one pass.
-ghost use Rattle.std.specs.Prelude.{◌≡◌, List, [], length, map, replicate, IfOk, OnOk};
+ghost use Rattle.std.specs.Prelude.{◌≡◌, [], length, map, replicate, IfOk, OnOk};
 ghost use Rattle.cell_block.specs.Blocks.{tasks_at};
 ghost use Rattle.cell_block.specs.Scene.{IsGoodScene, IsOtherRange, IsRange, is_in, leaf_numbers, touches};
 ghost use Rattle.cell_block.specs.inner.TaskLists.{AddsTask};

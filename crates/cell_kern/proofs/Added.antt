@@ -12,11 +12,12 @@ use Rattle.sph_num.specs.Density.{density_of}
 use Rattle.sph_num.specs.Force.{force_of}
 use Rattle.sph_num.specs.Kinds.{same_kind}
 use Rattle.sph_bins.specs.Kick.{ghost_at}
-use Rattle.cell_block.specs.declared.block.Block.{Block}
-use Rattle.cell_block.specs.declared.block.Mark.{Mark}
+use Rattle.cell_block.specs.declared.rows.BlockRows.{BlockRows}
+use Rattle.cell_block.specs.declared.rows.Mark.{Mark}
 use Rattle.cell_block.specs.declared.scene.Scene.{Scene}
 use Rattle.cell_block.specs.Blocks.{Agrees, AreAdded, AreDoneWith, AreReady, IsAdded, done_of, rest_of}
 use Rattle.cell_block.specs.Content.{is_done_on, met}
+use Rattle.cell_block.specs.Extents.{AreWithin}
 use Rattle.cell_block.specs.Scene.{IsGoodScene, is_due_at, is_in, line_at, members_in, members_of, particle_at, place_of, touches}
 use Rattle.cell_block.specs.Tasks.{IsMarked, IsTask}
 use Rattle.cell_block.proofs.Added.{added, done_in}
@@ -79,7 +80,7 @@ force_value scene task leaf i done done' all others new are at_tick members =
     ]
 
 -- a column of sums after what all gave
-column_given : {X : Type 0} (given : Member → X → Member → X) (old new : ℕ → X) (scene : Scene) (leaf : ℕ) (block : Block) (sums : List X) (all : List Member) → Agrees scene leaf block → sums ≡ map old (members_of scene leaf)
+column_given : {X : Type 0} (given : Member → X → Member → X) (old new : ℕ → X) (scene : Scene) (leaf : ℕ) (block : BlockRows) (sums : List X) (all : List Member) → Agrees scene leaf block → sums ≡ map old (members_of scene leaf)
     → ((i : ℕ) → Contains (members_of scene leaf) i → fold (given (seen scene leaf (done_of block) i)) (old i) all ≡ new i) → zip2 (λ member sum. fold (given member) sum all) (rows_in block) sums ≡ map new (members_of scene leaf)
 column_given given old new scene leaf block sums all agrees are each =
     let see = seen scene leaf (done_of block) in
@@ -102,7 +103,7 @@ done_more scene leaf task done done' more drift made kick in_densities in_forces
   forces = forces;
 }
 
-density_added : (scene : Scene) (task leaf : ℕ) (before mid after : Block) (all : List Member) → (line_at scene task).kind ≡ Density → Agrees scene leaf before → HasRhos before all mid → IsMarked task mid after
+density_added : (scene : Scene) (task leaf : ℕ) (before mid after : BlockRows) (all : List Member) → (line_at scene task).kind ≡ Density → Agrees scene leaf before → HasRhos before all mid → IsMarked task mid after
     → ((i : ℕ) → Contains (members_of scene leaf) i → AreDoneWith (done_of before) task (done_of after)
     → fold (rho_given (seen scene leaf (done_of before) i)) (rho_with scene (met scene Density (done_of before) i) i) all ≡ rho_with scene (met scene Density (done_of after) i) i)
     → IsAdded scene task leaf before after
@@ -110,24 +111,24 @@ density_added scene task leaf before mid after all kind agrees given marked each
     let done = done_of before in
     let done' = done_of after in
     let parts = parts_held scene leaf done before agrees.rows in
-    let more : AreDoneWith done task done' = subst (λ (ms : List Mark). AreDoneWith (done_in ms) task done') (ap (λ (b : Block). b.marks.items) given.unchanged) marked.done in
+    let more : AreDoneWith done task done' = subst (λ (ms : List Mark). AreDoneWith (done_in ms) task done') (ap (λ (b : BlockRows). b.marks.items) given.unchanged) marked.done in
     let new = λ (i : ℕ). met scene Density done' i in
     let old = λ (i : ℕ). met scene Force done i in
     added scene task leaf (is_done_on scene Drift leaf done) (is_done_on scene Ghost leaf done) (is_done_on scene Kick leaf done) new old before mid after agrees
-    (record { leaf = ap (λ (b : Block). b.leaf) given.unchanged; members = ap (λ (b : Block). b.members.items) given.unchanged; marks = ap (λ (b : Block). b.marks.items) given.unchanged; due = ap (λ (b : Block). b.due.items) given.unchanged })
+    (record { leaf = ap (λ (b : BlockRows). b.leaf) given.unchanged; members = ap (λ (b : BlockRows). b.members.items) given.unchanged; marks = ap (λ (b : BlockRows). b.marks.items) given.unchanged; due = ap (λ (b : BlockRows). b.due.items) given.unchanged; extent = subst (λ (b : BlockRows). AreWithin b.extent b.spots.items) (sym given.unchanged) agrees.extent })
     (record {
-      spots = ap (λ (b : Block). b.spots.items) given.unchanged ∙ parts.spots;
-      pulls = ap (λ (b : Block). b.pulls.items) given.unchanged ∙ parts.pulls;
+      spots = ap (λ (b : BlockRows). b.spots.items) given.unchanged ∙ parts.spots;
+      pulls = ap (λ (b : BlockRows). b.pulls.items) given.unchanged ∙ parts.pulls;
       rhos = given.rhos
           ∙ column_given rho_given (λ i. rho_with scene (met scene Density done i) i) (λ i. rho_with scene (new i) i) scene leaf before before.rhos.items all agrees parts.rhos (λ i at. each i at more);
-      forces = ap (λ (b : Block). b.forces.items) given.unchanged ∙ parts.forces;
-      particles = ap (λ (b : Block). map rest_of b.particles.items) given.unchanged ∙ parts.particles;
+      forces = ap (λ (b : BlockRows). b.forces.items) given.unchanged ∙ parts.forces;
+      particles = ap (λ (b : BlockRows). map rest_of b.particles.items) given.unchanged ∙ parts.particles;
     })
     marked
     (λ added. done_more scene leaf task done done' added (ap (λ k. same_kind k Drift) kind) (ap (λ k. same_kind k Ghost) kind) (ap (λ k. same_kind k Kick) kind) new old (λ i. refl)
     (λ i. met_other_kind scene Force task i done done' added (ap (λ k. same_kind k Force) kind)))
 
-force_added : (scene : Scene) (task leaf : ℕ) (before mid after : Block) (all : List Member) → (line_at scene task).kind ≡ Force → Agrees scene leaf before → HasForces before all mid → IsMarked task mid after
+force_added : (scene : Scene) (task leaf : ℕ) (before mid after : BlockRows) (all : List Member) → (line_at scene task).kind ≡ Force → Agrees scene leaf before → HasForces before all mid → IsMarked task mid after
     → ((i : ℕ) → Contains (members_of scene leaf) i → AreDoneWith (done_of before) task (done_of after)
     → fold (force_given (seen scene leaf (done_of before) i)) (force_with scene (met scene Force (done_of before) i) i) all ≡ force_with scene (met scene Force (done_of after) i) i)
     → IsAdded scene task leaf before after
@@ -135,18 +136,18 @@ force_added scene task leaf before mid after all kind agrees given marked each =
     let done = done_of before in
     let done' = done_of after in
     let parts = parts_held scene leaf done before agrees.rows in
-    let more : AreDoneWith done task done' = subst (λ (ms : List Mark). AreDoneWith (done_in ms) task done') (ap (λ (b : Block). b.marks.items) given.unchanged) marked.done in
+    let more : AreDoneWith done task done' = subst (λ (ms : List Mark). AreDoneWith (done_in ms) task done') (ap (λ (b : BlockRows). b.marks.items) given.unchanged) marked.done in
     let old = λ (i : ℕ). met scene Density done i in
     let new = λ (i : ℕ). met scene Force done' i in
     added scene task leaf (is_done_on scene Drift leaf done) (is_done_on scene Ghost leaf done) (is_done_on scene Kick leaf done) old new before mid after agrees
-    (record { leaf = ap (λ (b : Block). b.leaf) given.unchanged; members = ap (λ (b : Block). b.members.items) given.unchanged; marks = ap (λ (b : Block). b.marks.items) given.unchanged; due = ap (λ (b : Block). b.due.items) given.unchanged })
+    (record { leaf = ap (λ (b : BlockRows). b.leaf) given.unchanged; members = ap (λ (b : BlockRows). b.members.items) given.unchanged; marks = ap (λ (b : BlockRows). b.marks.items) given.unchanged; due = ap (λ (b : BlockRows). b.due.items) given.unchanged; extent = subst (λ (b : BlockRows). AreWithin b.extent b.spots.items) (sym given.unchanged) agrees.extent })
     (record {
-      spots = ap (λ (b : Block). b.spots.items) given.unchanged ∙ parts.spots;
-      pulls = ap (λ (b : Block). b.pulls.items) given.unchanged ∙ parts.pulls;
-      rhos = ap (λ (b : Block). b.rhos.items) given.unchanged ∙ parts.rhos;
+      spots = ap (λ (b : BlockRows). b.spots.items) given.unchanged ∙ parts.spots;
+      pulls = ap (λ (b : BlockRows). b.pulls.items) given.unchanged ∙ parts.pulls;
+      rhos = ap (λ (b : BlockRows). b.rhos.items) given.unchanged ∙ parts.rhos;
       forces = given.forces
           ∙ column_given force_given (λ i. force_with scene (met scene Force done i) i) (λ i. force_with scene (new i) i) scene leaf before before.forces.items all agrees parts.forces (λ i at. each i at more);
-      particles = ap (λ (b : Block). map rest_of b.particles.items) given.unchanged ∙ parts.particles;
+      particles = ap (λ (b : BlockRows). map rest_of b.particles.items) given.unchanged ∙ parts.particles;
     })
     marked
     (λ added. done_more scene leaf task done done' added (ap (λ k. same_kind k Drift) kind) (ap (λ k. same_kind k Ghost) kind) (ap (λ k. same_kind k Kick) kind) old new
@@ -160,7 +161,7 @@ abbrev Touched : Scene → ℕ → ℕ × ℕ → Type 0
 Touched scene task range = (leaf : ℕ) → is_in range leaf ≡ true → touches (line_at scene task) leaf ≡ true
 
 -- the members of the other range, as a density reads them, and as a force with a due member does
-sources_of : (scene : Scene) (task : ℕ) (range : ℕ × ℕ) (blocks : List Block) → IsGoodScene scene → IsTask scene Density task → Touched scene task range → AreReady scene task range blocks
+sources_of : (scene : Scene) (task : ℕ) (range : ℕ × ℕ) (blocks : List BlockRows) → IsGoodScene scene → IsTask scene Density task → Touched scene task range → AreReady scene task range blocks
     → map source_of (flat_map rows_in blocks) ≡ map (source_at scene) (members_in scene range)
 sources_of scene task range blocks good is touched ready =
     rows_of_range source_of (source_at scene) scene range.0 blocks
@@ -170,7 +171,7 @@ sources_of scene task range blocks good is touched ready =
     rows_sources scene (range.0 + k) block one.agrees (density_drifted scene (range.0 + k) task block good is (touched (range.0 + k) (leaf_in range k (length blocks) ready.one_each low)) one))
     ∙ ap (λ n. map (source_at scene) (flat_map (members_of scene) (range_with_len range.0 n))) ready.one_each
 
-members_at_tick : (scene : Scene) (task there i : ℕ) (range : ℕ × ℕ) (blocks : List Block) → IsGoodScene scene → IsTask scene Force task → Touched scene task range → touches (line_at scene task) there ≡ true → Contains (members_of scene there) i → is_due_at scene i ≡ true
+members_at_tick : (scene : Scene) (task there i : ℕ) (range : ℕ × ℕ) (blocks : List BlockRows) → IsGoodScene scene → IsTask scene Force task → Touched scene task range → touches (line_at scene task) there ≡ true → Contains (members_of scene there) i → is_due_at scene i ≡ true
     → AreReady scene task range blocks → map (λ (m : Member). m) (flat_map rows_in blocks) ≡ map (member_at_tick scene) (members_in scene range)
 members_at_tick scene task there i range blocks good is touched touched_there at due ready =
     rows_of_range (λ (m : Member). m) (member_at_tick scene) scene range.0 blocks
@@ -183,7 +184,7 @@ members_at_tick scene task there i range blocks good is touched touched_there at
     ∙ ap (λ n. map (member_at_tick scene) (flat_map (members_of scene) (range_with_len range.0 n))) ready.one_each
 
 -- so the task is added to each block of a range
-pub range_added : (sums : Sums) (scene : Scene) (task : ℕ) (range other : ℕ × ℕ) (blocks others mids news : List Block) → IsGoodScene scene → IsTask scene (kind_of sums) task → AreReady scene task range blocks → AreReady scene task other others
+pub range_added : (sums : Sums) (scene : Scene) (task : ℕ) (range other : ℕ × ℕ) (blocks others mids news : List BlockRows) → IsGoodScene scene → IsTask scene (kind_of sums) task → AreReady scene task range blocks → AreReady scene task other others
     → Touched scene task range → Touched scene task other → ((i : ℕ) → Contains (members_in scene range) i → AreOthers scene (line_at scene task) i (members_in scene other))
     → AreGivenTo sums blocks (flat_map rows_in others) mids → AreMarked task mids news → AreAdded scene task range blocks news
 range_added Densities scene task range other blocks others mids news good is ready others_ready touched others_touched are given marked =

@@ -4,15 +4,14 @@ use Rattle.std.proofs.lemmas.List.{same_lists, get_or_default}
 use Rattle.std.proofs.lemmas.List.Elements.{All-from_get_or}
 use Rattle.std.proofs.lemmas.Simd.{length-zip2, get_or-zip2}
 use Rattle.sph_num.specs.Pull.{Puller}
-use Rattle.sph_num.specs.Space.{IsPlace}
-use Rattle.cell_block.specs.declared.block.Block.{Block}
-use Rattle.cell_block.specs.declared.block.Spot.{Spot}
+use Rattle.cell_block.specs.declared.extent.Extent.{Extent}
+use Rattle.cell_block.specs.declared.rows.BlockRows.{BlockRows}
+use Rattle.cell_block.specs.declared.rows.Spot.{Spot}
+use Rattle.cell_block.specs.Extents.{AreApart, AreWithin, IsBeyond, IsWithin}
 use Rattle.cell_kern.specs.declared.blocks.Sums.{Sums}
 use Rattle.cell_kern.specs.declared.blocks.Sums.TheVariants.{Densities, Forces}
-use Rattle.cell_kern.specs.declared.extent.Extent.{Extent}
 use Rattle.cell_kern.specs.declared.members.Member.{Member}
 use Rattle.cell_kern.specs.declared.members.Members.{Members}
-use Rattle.cell_kern.specs.inner.Extents.{AreApart, AreWithin, HavePlaces, IsBeyond, IsWithin}
 use Rattle.cell_kern.specs.inner.Gathered.{AreMembers, IsSound, force_given, gathered, list_of, members, no_member, rho_given}
 use Rattle.cell_kern.specs.inner.Taking.{CanTake, IsGiven, rows_in}
 use Rattle.cell_kern.proofs.Densities.{rho_kept}
@@ -22,23 +21,15 @@ use Rattle.cell_kern.proofs.Passed.{fold_kept}
 use Rattle.cell_kern.proofs.Reach.{AreFar, IsFar, far}
 use Rattle.cell_kern.proofs.Taken.{length-rows_in}
 
--- what holds of the spots of members, and of those in the list of which they are made
+-- what holds of the spots in a list holds of those of the members that are made of it
 module _ (P : Spot → Type 0) (spots : List Spot) (pulls : List Puller) (due : List Bool) (same_pulls : length pulls ≡ length spots) (same_due : length due ≡ length spots) where
   spot_in : (k : ℕ) (d : Spot) → k < length spots → (get_or (members spots pulls due) k no_member).spot ≡ get_or spots k d
   spot_in k d low = ap (λ (m : Member). m.spot) (member_in spots pulls due k d no_member.pull false same_pulls same_due low)
-
-  pub All-spots : All (λ (m : Member). P m.spot) (members spots pulls due) → All P spots
-  All-spots all = λ k d low. subst P (spot_in k d low) (all k no_member (omega (arith, length-members spots pulls due same_pulls same_due)))
 
   pub All-of_spots : All P spots → All (λ (m : Member). P m.spot) (members spots pulls due)
   All-of_spots all = All-from_get_or (λ (m : Member). P m.spot) (members spots pulls due) no_member
       (λ k inside. let low : k < length spots = omega (arith, length-members spots pulls due same_pulls same_due) in
       subst P (sym (spot_in k no_member.spot low)) (all k no_member.spot low))
-
--- the places of members that can take sums are in the box
-pub spots_in_box : (sums : Sums) (level : ℕ) (block : Block) → CanTake sums level block → HavePlaces block.spots.items
-spots_in_box sums level block can =
-    All-spots (λ spot. IsPlace spot.place) block.spots.items block.pulls.items block.due.items can.pulls can.due (λ k d inside. (can.sound k d inside).place)
 
 -- spots that are no nearer than their lengths
 far_apart : (one other : Member) → IsSound one → IsSound other → IsBeyond one.spot other.spot → AreFar one other
@@ -51,12 +42,11 @@ row_far one others point extent sound are on_point on_extent apart =
     let within = All-of_spots (IsWithin extent) others.spots.now others.pulls.now others.due.now are.pulls are.due on_extent in
     λ k d inside. far_apart one (get_or (list_of others) k d) sound (are.sound k d inside) (apart one.spot (get_or (list_of others) k d).spot on_point (within k d inside))
 
--- two blocks in two boxes
-pub blocks_far : (sums : Sums) (level : ℕ) (first second : Block) (a b : Extent) → CanTake sums level first → CanTake sums level second → AreWithin a first.spots.items → AreWithin b second.spots.items → AreApart a b
-    → All (λ m. All (AreFar m) (rows_in second)) (rows_in first)
-blocks_far sums level first second a b can others on_a on_b apart =
-    let within_a = All-of_spots (IsWithin a) first.spots.items first.pulls.items first.due.items can.pulls can.due on_a in
-    let within_b = All-of_spots (IsWithin b) second.spots.items second.pulls.items second.due.items others.pulls others.due on_b in
+-- two blocks whose boxes are apart
+pub blocks_far : (sums : Sums) (level : ℕ) (first second : BlockRows) → CanTake sums level first → CanTake sums level second → AreApart first.extent second.extent → All (λ m. All (AreFar m) (rows_in second)) (rows_in first)
+blocks_far sums level first second can others apart =
+    let within_a = All-of_spots (IsWithin first.extent) first.spots.items first.pulls.items first.due.items can.pulls can.due can.extent in
+    let within_b = All-of_spots (IsWithin second.extent) second.spots.items second.pulls.items second.due.items others.pulls others.due others.extent in
     λ j d inside k e low.
     let one = get_or (rows_in first) j d in
     let other = get_or (rows_in second) k e in
@@ -77,7 +67,7 @@ gathered_kept given to from sums d same none =
     (λ k e low. let inside : k < length to = omega (arith, same) in
     get_or_default sums k e d low ∙ sym (none k inside) ∙ sym (get_or-zip2 f to sums k no_member d e inside low))
 
-pub taken_apart : (sums : Sums) (level : ℕ) (block : Block) (from : List Member) → CanTake sums level block → All (λ m. All (IsFar m) from) (rows_in block) → IsGiven sums block from block
+pub taken_apart : (sums : Sums) (level : ℕ) (block : BlockRows) (from : List Member) → CanTake sums level block → All (λ m. All (IsFar m) from) (rows_in block) → IsGiven sums block from block
 taken_apart Densities level block from can all = record {
   rhos = gathered_kept rho_given (rows_in block) from block.rhos.items 0 (length-rows_in Densities level block can ∙ sym can.rhos)
       (λ k inside. rho_row_kept (get_or (rows_in block) k no_member) (get_or block.rhos.items k 0) from (all k no_member inside));

@@ -16,7 +16,7 @@ use Rattle.sph_num.specs.Pull.{puller}
 use Rattle.sph_num.specs.Space.{dist2}
 use Rattle.sph_num.specs.Totals.{component, total_by, vector_of}
 use Rattle.sph_bins.specs.Kick.{ghost_at}
-use Rattle.cell_block.specs.declared.block.Block.{Block}
+use Rattle.cell_block.specs.declared.rows.BlockRows.{BlockRows}
 use Rattle.cell_block.specs.declared.scene.Scene.{Scene}
 use Rattle.cell_block.specs.Blocks.{Agrees, done_of}
 use Rattle.cell_block.specs.Content.{is_done_on, row_of, summed_in}
@@ -62,7 +62,7 @@ source_seen : (scene : Scene) (leaf : ℕ) (done : List ℕ) (i : ℕ) → (scen
 source_seen scene leaf done i is =
     ap (λ p. the_source p (row_of scene leaf done i).particle.mass) (place_seen scene leaf done i is) ∙ ap (the_source (place_of scene (particle_at scene i))) (row_mass scene leaf done i)
 
-pub rows_sources : (scene : Scene) (leaf : ℕ) (block : Block) → Agrees scene leaf block → (scene.drift ≡ true → is_done_on scene Drift leaf (done_of block) ≡ true) → map source_of (rows_in block) ≡ map (source_at scene) (members_of scene leaf)
+pub rows_sources : (scene : Scene) (leaf : ℕ) (block : BlockRows) → Agrees scene leaf block → (scene.drift ≡ true → is_done_on scene Drift leaf (done_of block) ≡ true) → map source_of (rows_in block) ≡ map (source_at scene) (members_of scene leaf)
 rows_sources scene leaf block agrees is =
     ap (map source_of) (rows_seen scene leaf block agrees) ∙ map-map source_of (seen scene leaf (done_of block)) (members_of scene leaf)
     ∙ map_agree (λ i. source_of (seen scene leaf (done_of block) i)) (source_at scene) (members_of scene leaf) (λ i at. source_seen scene leaf (done_of block) i is)
@@ -86,20 +86,20 @@ tick_seen scene leaf done i is made =
     ∙ ap (λ x. the_member (place_of scene p) p.h x row.particle.g due) (row_mass scene leaf done i)
     ∙ ap (λ x. the_member (place_of scene p) p.h p.mass x due) (ghost_seen scene leaf done i made)
 
-pub rows_at_tick : (scene : Scene) (leaf : ℕ) (block : Block) → Agrees scene leaf block → (scene.drift ≡ true → is_done_on scene Drift leaf (done_of block) ≡ true)
+pub rows_at_tick : (scene : Scene) (leaf : ℕ) (block : BlockRows) → Agrees scene leaf block → (scene.drift ≡ true → is_done_on scene Drift leaf (done_of block) ≡ true)
     → ((i : ℕ) → Contains (members_of scene leaf) i → is_due_at scene i ≡ true → is_done_on scene Ghost leaf (done_of block) ≡ true) → map (λ (m : Member). m) (rows_in block) ≡ map (member_at_tick scene) (members_of scene leaf)
 rows_at_tick scene leaf block agrees is made =
     ap (map (λ (m : Member). m)) (rows_seen scene leaf block agrees) ∙ map-map (λ (m : Member). m) (seen scene leaf (done_of block)) (members_of scene leaf)
     ∙ map_agree (seen scene leaf (done_of block)) (member_at_tick scene) (members_of scene leaf) (λ i at. tick_seen scene leaf (done_of block) i is (made i at))
 
 -- of the blocks of a range in order
-pub rows_of_range : {Y : Type 0} (h : Member → Y) (g : ℕ → Y) (scene : Scene) (first : ℕ) (blocks : List Block) → ((k : ℕ) (d : Block) → k < length blocks → map h (rows_in (get_or blocks k d)) ≡ map g (members_of scene (first + k)))
+pub rows_of_range : {Y : Type 0} (h : Member → Y) (g : ℕ → Y) (scene : Scene) (first : ℕ) (blocks : List BlockRows) → ((k : ℕ) (d : BlockRows) → k < length blocks → map h (rows_in (get_or blocks k d)) ≡ map g (members_of scene (first + k)))
     → map h (flat_map rows_in blocks) ≡ map g (flat_map (members_of scene) (range_with_len first (length blocks)))
 rows_of_range h g scene first [] each = refl
 rows_of_range h g scene first (b ∷ bs) each =
     let here : first + 0 ≡ first = omega arith in
     let head = each 0 b (omega arith) ∙ ap (λ n. map g (members_of scene n)) here in
-    let later = λ (k : ℕ) (d : Block) (low : k < length bs). let next : first + suc k ≡ (first + 1) + k = omega arith in each (suc k) d (omega arith) ∙ ap (λ n. map g (members_of scene n)) next in
+    let later = λ (k : ℕ) (d : BlockRows) (low : k < length bs). let next : first + suc k ≡ (first + 1) + k = omega arith in each (suc k) d (omega arith) ∙ ap (λ n. map g (members_of scene n)) next in
     let tail = rows_of_range h g scene (first + 1) bs later in
     map-append h (rows_in b) (flat_map rows_in bs) ∙ ap (λ xs. xs ++ map h (flat_map rows_in bs)) head ∙ ap (λ xs. map g (members_of scene first) ++ xs) tail
     ∙ sym (map-append g (members_of scene first) (flat_map (members_of scene) (range_with_len (first + 1) (length bs))))

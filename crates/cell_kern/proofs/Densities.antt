@@ -8,7 +8,7 @@ use Rattle.sph_num.specs.Ranges.{most_particles}
 use Rattle.sph_num.specs.Space.{dist2}
 use Rattle.sph_num.proofs.Sums.{density_within-lt, dist2_self}
 use Rattle.sph_num.proofs.Turned.{dist2-comm}
-use Rattle.cell_block.specs.declared.block.Spot.{Spot}
+use Rattle.cell_block.specs.declared.rows.Spot.{Spot}
 use Rattle.cell_kern.specs.declared.members.Member.{Member}
 use Rattle.cell_kern.specs.inner.Gathered.{AreBelow, IsSound, member, no_member, rho_given}
 use Rattle.cell_kern.proofs.Gathers.{AreGiven}

@@ -22,7 +22,7 @@ use Rattle.sph_num.proofs.Drifts.{IsPlace-position_of}
 use Rattle.sph_num.proofs.Forces.{total_by-le}
 use Rattle.sph_num.proofs.Sums.{density_of-lt}
 use Rattle.sph_bins.specs.Kick.{ghost_at}
-use Rattle.cell_block.specs.declared.block.Block.{Block}
+use Rattle.cell_block.specs.declared.rows.BlockRows.{BlockRows}
 use Rattle.cell_block.specs.declared.scene.Scene.{Scene}
 use Rattle.cell_block.specs.Blocks.{Agrees, AreReady, done_of}
 use Rattle.cell_block.specs.Content.{met}
@@ -65,7 +65,7 @@ few_particles : (scene : Scene) → IsGoodScene scene → length scene.start ≤
 few_particles scene good = omega (arith, good.in_bounds.count, good.in_bounds.bounds_in_range.count_high)
 
 -- the members of the blocks of a range
-pub rows_few : (scene : Scene) (task : ℕ) (range : ℕ × ℕ) (blocks : List Block) → IsGoodScene scene → AreReady scene task range blocks → length (flat_map rows_in blocks) ≤ most_particles
+pub rows_few : (scene : Scene) (task : ℕ) (range : ℕ × ℕ) (blocks : List BlockRows) → IsGoodScene scene → AreReady scene task range blocks → length (flat_map rows_in blocks) ≤ most_particles
 rows_few scene task range blocks good ready =
     let none = λ (m : Member). zero in
     let none' = λ (i : ℕ). zero in
@@ -121,7 +121,7 @@ force_small scene done i good inside (suc (suc (suc axis))) = omega arith
 force_narrow : (scene : Scene) (done : List ℕ) (i : ℕ) → IsGoodScene scene → i < length scene.start → IsNarrow ((1 + 0) * 2 ^ 112) (force_of (place_of scene) (ghost_at scene.params scene.tick scene.start) (met scene Force done i) (particle_at scene i))
 force_narrow scene done i good inside = record { three = refl; small = λ axis. omega (arith, force_small scene done i good inside axis) }
 
-has_room : (sums : Sums) (scene : Scene) (leaf : ℕ) (block : Block) → IsGoodScene scene → Agrees scene leaf block → HasRoom sums 0 block
+has_room : (sums : Sums) (scene : Scene) (leaf : ℕ) (block : BlockRows) → IsGoodScene scene → Agrees scene leaf block → HasRoom sums 0 block
 has_room Densities scene leaf block good agrees =
     λ k inside due.
     let done = done_of block in
@@ -149,7 +149,7 @@ has_room Forces scene leaf block good agrees =
     ∙ chosen (is_due_at scene i) (force_of (place_of scene) (ghost_at scene.params scene.tick scene.start) (met scene Force done i) p) p.f here in
     subst (IsNarrow ((1 + 0) * 2 ^ 112)) (sym force) (force_narrow scene done i good in_scene)
 
-pub can_take : (sums : Sums) (scene : Scene) (leaf : ℕ) (block : Block) → IsGoodScene scene → Agrees scene leaf block → CanTake sums 0 block
+pub can_take : (sums : Sums) (scene : Scene) (leaf : ℕ) (block : BlockRows) → IsGoodScene scene → Agrees scene leaf block → CanTake sums 0 block
 can_take sums scene leaf block good agrees =
     let whole = IsWhole-from_agrees scene leaf block agrees in
     record {
@@ -159,8 +159,9 @@ can_take sums scene leaf block good agrees =
       forces = whole.forces ∙ sym whole.spots;
       few = omega (arith, whole.spots, ap length agrees.members, few_of scene leaf good, few_particles scene good);
       sound = rows_sound scene leaf block good agrees;
+      extent = agrees.extent;
       room = has_room sums scene leaf block good agrees;
     }
 
-pub can_take_all : (sums : Sums) (scene : Scene) (task : ℕ) (range : ℕ × ℕ) (blocks : List Block) → IsGoodScene scene → AreReady scene task range blocks → CanTakeAll sums 0 blocks
+pub can_take_all : (sums : Sums) (scene : Scene) (task : ℕ) (range : ℕ × ℕ) (blocks : List BlockRows) → IsGoodScene scene → AreReady scene task range blocks → CanTakeAll sums 0 blocks
 can_take_all sums scene task range blocks good ready = λ k d low. can_take sums scene (range.0 + k) (get_or blocks k d) good (ready.ready k d low).agrees

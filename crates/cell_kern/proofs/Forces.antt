@@ -16,7 +16,7 @@ use Rattle.sph_num.proofs.Forces.{force_factor_out_of_reach}
 use Rattle.sph_num.proofs.Slopes.{factor_within-lt}
 use Rattle.sph_num.proofs.Sums.{minimal_self}
 use Rattle.sph_num.proofs.Turned.{dist2-comm, minimal_turned_in_reach}
-use Rattle.cell_block.specs.declared.block.Spot.{Spot}
+use Rattle.cell_block.specs.declared.rows.Spot.{Spot}
 use Rattle.cell_kern.specs.declared.members.Member.{Member}
 use Rattle.cell_kern.specs.inner.Gathered.{AreNarrow, IsNarrow, IsSound, force_given, member, no_member, pull_along, pull_on, pulled}
 use Rattle.cell_kern.proofs.Gathers.{AreGiven}

@@ -5,7 +5,6 @@ pub mod Gathers
 pub mod Densities
 pub mod Forces
 pub mod Taken
-pub mod Boxes
 pub mod Apart
 pub mod Range
 pub mod Seen

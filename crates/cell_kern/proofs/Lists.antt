@@ -6,7 +6,7 @@ use Rattle.std.specs.Simd.Lanes.{zip2}
 use Rattle.std.proofs.lemmas.Simd.{length-zip2, get_or-zip2}
 use Rattle.lists.proofs.Elements.{Contains-head, Contains-later}
 use Rattle.sph_num.specs.Pull.{Puller}
-use Rattle.cell_block.specs.declared.block.Spot.{Spot}
+use Rattle.cell_block.specs.declared.rows.Spot.{Spot}
 use Rattle.cell_kern.specs.declared.members.Member.{Member}
 use Rattle.cell_kern.specs.declared.members.Members.{Members}
 use Rattle.cell_kern.specs.inner.Gathered.{AreMembers, IsSound, list_of, member, members, no_member}

@@ -2,7 +2,7 @@
 use Rattle.std.proofs.Common.{◌≡◌, ℕ, true, List, [], ◌∷◌, map, Contains, refl, ap, ◌∙◌}
 use Rattle.sph_num.specs.declared.kind.Kind.{Kind}
 use Rattle.sph_num.specs.declared.kind.Kind.TheVariants.{Drift, Density, Ghost, Force}
-use Rattle.cell_block.specs.declared.block.Block.{Block}
+use Rattle.cell_block.specs.declared.rows.BlockRows.{BlockRows}
 use Rattle.cell_block.specs.declared.scene.Scene.{Scene}
 use Rattle.cell_block.specs.declared.scene.TaskLine.{TaskLine}
 use Rattle.cell_block.specs.Blocks.{IsReady, done_of}
@@ -82,13 +82,13 @@ drift_before_force scene leaf there i task good is drifts touched touched_there 
     }
 
 -- so these are done on a block that is ready
-pub density_drifted : (scene : Scene) (leaf task : ℕ) (block : Block) → IsGoodScene scene → IsTask scene Density task → touches (line_at scene task) leaf ≡ true → IsReady scene task leaf block → scene.drift ≡ true → is_done_on scene Drift leaf (done_of block) ≡ true
+pub density_drifted : (scene : Scene) (leaf task : ℕ) (block : BlockRows) → IsGoodScene scene → IsTask scene Density task → touches (line_at scene task) leaf ≡ true → IsReady scene task leaf block → scene.drift ≡ true → is_done_on scene Drift leaf (done_of block) ≡ true
 density_drifted scene leaf task block good is touched ready drifts = done_before scene Drift leaf task block (drift_before_density scene leaf task good is drifts touched) ready
 
-pub force_drifted : (scene : Scene) (leaf there i task : ℕ) (block : Block) → IsGoodScene scene → IsTask scene Force task → touches (line_at scene task) leaf ≡ true → touches (line_at scene task) there ≡ true
+pub force_drifted : (scene : Scene) (leaf there i task : ℕ) (block : BlockRows) → IsGoodScene scene → IsTask scene Force task → touches (line_at scene task) leaf ≡ true → touches (line_at scene task) there ≡ true
     → Contains (members_of scene there) i → is_due_at scene i ≡ true → IsReady scene task leaf block → scene.drift ≡ true → is_done_on scene Drift leaf (done_of block) ≡ true
 force_drifted scene leaf there i task block good is touched touched_there at due ready drifts = done_before scene Drift leaf task block (drift_before_force scene leaf there i task good is drifts touched touched_there at due) ready
 
-pub force_ghosted : (scene : Scene) (leaf i task : ℕ) (block : Block) → IsGoodScene scene → IsTask scene Force task → touches (line_at scene task) leaf ≡ true → Contains (members_of scene leaf) i → is_due_at scene i ≡ true
+pub force_ghosted : (scene : Scene) (leaf i task : ℕ) (block : BlockRows) → IsGoodScene scene → IsTask scene Force task → touches (line_at scene task) leaf ≡ true → Contains (members_of scene leaf) i → is_due_at scene i ≡ true
     → IsReady scene task leaf block → is_done_on scene Ghost leaf (done_of block) ≡ true
 force_ghosted scene leaf i task block good is touched at due ready = done_before scene Ghost leaf task block (ghost_before_force scene leaf i task good is touched at due) ready

@@ -5,7 +5,7 @@ use Rattle.sph_num.specs.Force.{InReach}
 use Rattle.sph_num.specs.Pull.{Puller}
 use Rattle.sph_num.specs.Space.{dist2}
 use Rattle.sph_num.proofs.Turned.{dist2-comm}
-use Rattle.cell_block.specs.declared.block.Spot.{Spot}
+use Rattle.cell_block.specs.declared.rows.Spot.{Spot}
 use Rattle.cell_kern.specs.declared.members.Member.{Member}
 use Rattle.cell_kern.specs.inner.Gathered.{IsSound, member}
 

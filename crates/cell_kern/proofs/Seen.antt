@@ -11,7 +11,7 @@ use Rattle.sph_num.proofs.Drifts.{IsPlace-position_of}
 use Rattle.sph_num.proofs.Sums.{greatest_ghost-lt}
 use Rattle.sph_bins.specs.Kick.{ghost_at}
 use Rattle.sph_bins.proofs.Narrow.{ghost_at-le}
-use Rattle.cell_block.specs.declared.block.Block.{Block}
+use Rattle.cell_block.specs.declared.rows.BlockRows.{BlockRows}
 use Rattle.cell_block.specs.declared.scene.Scene.{Scene}
 use Rattle.cell_block.specs.Blocks.{Agrees, done_of, pull_of, spot_of}
 use Rattle.cell_block.specs.Content.{is_done_on, row_of, summed_in}
@@ -29,7 +29,7 @@ use Rattle.cell_kern.proofs.Lists.{either}
 abbrev pub seen : Scene → ℕ → List ℕ → ℕ → Member
 seen scene leaf done i = member (spot_of (row_of scene leaf done i)) (pull_of (row_of scene leaf done i)) (is_due_at scene i)
 
-pub rows_seen : (scene : Scene) (leaf : ℕ) (block : Block) → Agrees scene leaf block → rows_in block ≡ map (seen scene leaf (done_of block)) (members_of scene leaf)
+pub rows_seen : (scene : Scene) (leaf : ℕ) (block : BlockRows) → Agrees scene leaf block → rows_in block ≡ map (seen scene leaf (done_of block)) (members_of scene leaf)
 rows_seen scene leaf block agrees =
     let ms = members_of scene leaf in
     let row = row_of scene leaf (done_of block) in
@@ -70,7 +70,7 @@ sound_from_map scene leaf done m good at =
     let some = Contains-from_map (seen scene leaf done) (members_of scene leaf) m at in
     subst IsSound some.2 (seen_sound scene leaf done some.0 good (member_inside scene leaf some.0 good.leaves some.1))
 
-pub rows_sound : (scene : Scene) (leaf : ℕ) (block : Block) → IsGoodScene scene → Agrees scene leaf block → All IsSound (rows_in block)
+pub rows_sound : (scene : Scene) (leaf : ℕ) (block : BlockRows) → IsGoodScene scene → Agrees scene leaf block → All IsSound (rows_in block)
 rows_sound scene leaf block good agrees =
     rw (rows_seen scene leaf block agrees)
     (All-from_Contains IsSound (map (seen scene leaf (done_of block)) (members_of scene leaf)) (λ m at. sound_from_map scene leaf (done_of block) m good at))

@@ -3,7 +3,8 @@ use Rattle.std.proofs.Common.{◌≡◌, ℕ, ◌+◌, ◌*◌, ◌^◌, ◌<◌
 use Rattle.std.proofs.lemmas.List.Sums.{fold-append}
 use Rattle.std.proofs.lemmas.Simd.{length-zip2, get_or-zip2}
 use Rattle.sph_num.specs.Ranges.{most_particles}
-use Rattle.cell_block.specs.declared.block.Block.{Block}
+use Rattle.cell_block.specs.declared.rows.BlockRows.{BlockRows}
+use Rattle.cell_block.specs.Extents.{AreWithin}
 use Rattle.cell_kern.specs.declared.blocks.Sums.{Sums}
 use Rattle.cell_kern.specs.declared.blocks.Sums.TheVariants.{Densities, Forces}
 use Rattle.cell_kern.specs.declared.members.Member.{Member}
@@ -26,57 +27,61 @@ gathered_more given (m ∷ ms) xs ys [] = refl
 gathered_more given (m ∷ ms) xs ys (s ∷ ss) =
     ap (λ z. z ∷ gathered given ms ys (gathered given ms xs ss)) (sym (fold-append (given m) s xs ys)) ∙ ap (λ zs. fold (given m) s (xs ++ ys) ∷ zs) (gathered_more given ms xs ys ss)
 
-pub length-rows_in : (sums : Sums) (level : ℕ) (block : Block) → CanTake sums level block → length (rows_in block) ≡ length block.spots.items
+pub length-rows_in : (sums : Sums) (level : ℕ) (block : BlockRows) → CanTake sums level block → length (rows_in block) ≡ length block.spots.items
 length-rows_in sums level block can = length-members block.spots.items block.pulls.items block.due.items can.pulls can.due
 
-pub taken_none : (sums : Sums) (level : ℕ) (block : Block) → CanTake sums level block → IsGiven sums block [] block
+pub taken_none : (sums : Sums) (level : ℕ) (block : BlockRows) → CanTake sums level block → IsGiven sums block [] block
 taken_none Densities level block can = record { rhos = gathered_none rho_given (rows_in block) block.rhos.items (length-rows_in Densities level block can ∙ sym can.rhos); unchanged = refl }
 taken_none Forces level block can = record { forces = gathered_none force_given (rows_in block) block.forces.items (length-rows_in Forces level block can ∙ sym can.forces); unchanged = refl }
 
-pub same_rows : (sums : Sums) (before : Block) (from : List Member) (after : Block) → IsGiven sums before from after → rows_in after ≡ rows_in before
+pub same_rows : (sums : Sums) (before : BlockRows) (from : List Member) (after : BlockRows) → IsGiven sums before from after → rows_in after ≡ rows_in before
 same_rows Densities before from after is = ap rows_in is.unchanged
 same_rows Forces before from after is = ap rows_in is.unchanged
 
-pub same_spots : (sums : Sums) (before : Block) (from : List Member) (after : Block) → IsGiven sums before from after → after.spots.items ≡ before.spots.items
-same_spots Densities before from after is = ap (λ (x : Block). x.spots.items) is.unchanged
-same_spots Forces before from after is = ap (λ (x : Block). x.spots.items) is.unchanged
+same_spots : (sums : Sums) (before : BlockRows) (from : List Member) (after : BlockRows) → IsGiven sums before from after → after.spots.items ≡ before.spots.items
+same_spots Densities before from after is = ap (λ (x : BlockRows). x.spots.items) is.unchanged
+same_spots Forces before from after is = ap (λ (x : BlockRows). x.spots.items) is.unchanged
 
-pub taken_more : (sums : Sums) (a b c : Block) (xs ys : List Member) → IsGiven sums a xs b → IsGiven sums b ys c → IsGiven sums a (xs ++ ys) c
+same_extent : (sums : Sums) (before : BlockRows) (from : List Member) (after : BlockRows) → IsGiven sums before from after → AreWithin before.extent before.spots.items → AreWithin after.extent after.spots.items
+same_extent Densities before from after is within = subst (λ (x : BlockRows). AreWithin x.extent x.spots.items) (sym is.unchanged) within
+same_extent Forces before from after is within = subst (λ (x : BlockRows). AreWithin x.extent x.spots.items) (sym is.unchanged) within
+
+pub taken_more : (sums : Sums) (a b c : BlockRows) (xs ys : List Member) → IsGiven sums a xs b → IsGiven sums b ys c → IsGiven sums a (xs ++ ys) c
 taken_more Densities a b c xs ys first second = record {
   rhos = second.rhos ∙ ap (λ rows. gathered rho_given rows ys b.rhos.items) (same_rows Densities a xs b first) ∙ ap (gathered rho_given (rows_in a) ys) first.rhos ∙ gathered_more rho_given (rows_in a) xs ys a.rhos.items;
-  unchanged = ap (λ (x : Block). record x { rhos = a.rhos }) second.unchanged ∙ first.unchanged;
+  unchanged = ap (λ (x : BlockRows). record x { rhos = a.rhos }) second.unchanged ∙ first.unchanged;
 }
 taken_more Forces a b c xs ys first second = record {
   forces = second.forces ∙ ap (λ rows. gathered force_given rows ys b.forces.items) (same_rows Forces a xs b first) ∙ ap (gathered force_given (rows_in a) ys) first.forces ∙ gathered_more force_given (rows_in a) xs ys a.forces.items;
-  unchanged = ap (λ (x : Block). record x { forces = a.forces }) second.unchanged ∙ first.unchanged;
+  unchanged = ap (λ (x : BlockRows). record x { forces = a.forces }) second.unchanged ∙ first.unchanged;
 }
 
 -- what stays of a block, and how long its sums are
-record HasStayed (before after : Block) : Type 0 where
+record HasStayed (before after : BlockRows) : Type 0 where
   spots : after.spots.items ≡ before.spots.items
   pulls : after.pulls.items ≡ before.pulls.items
   due : after.due.items ≡ before.due.items
   rhos : length after.rhos.items ≡ length before.rhos.items
   forces : length after.forces.items ≡ length before.forces.items
 
-has_stayed : (sums : Sums) (level : ℕ) (before : Block) (from : List Member) (after : Block) → CanTake sums level before → IsGiven sums before from after → HasStayed before after
+has_stayed : (sums : Sums) (level : ℕ) (before : BlockRows) (from : List Member) (after : BlockRows) → CanTake sums level before → IsGiven sums before from after → HasStayed before after
 has_stayed Densities level before from after can is = record {
   spots = same_spots Densities before from after is;
-  pulls = ap (λ (x : Block). x.pulls.items) is.unchanged;
-  due = ap (λ (x : Block). x.due.items) is.unchanged;
+  pulls = ap (λ (x : BlockRows). x.pulls.items) is.unchanged;
+  due = ap (λ (x : BlockRows). x.due.items) is.unchanged;
   rhos = ap length is.rhos ∙ length-zip2 (λ (m : Member) s. fold (rho_given m) s from) (rows_in before) before.rhos.items (length-rows_in Densities level before can ∙ sym can.rhos) ∙ length-rows_in Densities level before can ∙ sym can.rhos;
-  forces = ap (λ (x : Block). length x.forces.items) is.unchanged;
+  forces = ap (λ (x : BlockRows). length x.forces.items) is.unchanged;
 }
 has_stayed Forces level before from after can is = record {
   spots = same_spots Forces before from after is;
-  pulls = ap (λ (x : Block). x.pulls.items) is.unchanged;
-  due = ap (λ (x : Block). x.due.items) is.unchanged;
-  rhos = ap (λ (x : Block). length x.rhos.items) is.unchanged;
+  pulls = ap (λ (x : BlockRows). x.pulls.items) is.unchanged;
+  due = ap (λ (x : BlockRows). x.due.items) is.unchanged;
+  rhos = ap (λ (x : BlockRows). length x.rhos.items) is.unchanged;
   forces = ap length is.forces ∙ length-zip2 (λ (m : Member) s. fold (force_given m) s from) (rows_in before) before.forces.items (length-rows_in Forces level before can ∙ sym can.forces) ∙ length-rows_in Forces level before can ∙ sym can.forces;
 }
 
 -- there is room for what is given, at the next level
-room_left : (sums : Sums) (level : ℕ) (before : Block) (from : List Member) (after : Block) → CanTake sums level before → All IsSound from → length from ≤ most_particles → IsGiven sums before from after → HasRoom sums (level + 1) after
+room_left : (sums : Sums) (level : ℕ) (before : BlockRows) (from : List Member) (after : BlockRows) → CanTake sums level before → All IsSound from → length from ≤ most_particles → IsGiven sums before from after → HasRoom sums (level + 1) after
 room_left Densities level before from after can all few is =
     λ k inside due.
     let rows = rows_in before in
@@ -99,7 +104,7 @@ room_left Forces level before from after can all few is =
     let narrow = force_sum-narrow one (get_or before.forces.items k []) from ((1 + level) * 2 ^ 112) (can.sound k no_member low) all few (can.room k low here) in
     rw value (record { three = narrow.three; small = λ axis. omega (arith, narrow.small axis) })
 
-pub taken_can : (sums : Sums) (level : ℕ) (before : Block) (from : List Member) (after : Block) → CanTake sums level before → All IsSound from → length from ≤ most_particles → IsGiven sums before from after → CanTake sums (level + 1) after
+pub taken_can : (sums : Sums) (level : ℕ) (before : BlockRows) (from : List Member) (after : BlockRows) → CanTake sums level before → All IsSound from → length from ≤ most_particles → IsGiven sums before from after → CanTake sums (level + 1) after
 taken_can sums level before from after can all few is =
     let stayed = has_stayed sums level before from after can is in
     let spots = ap length stayed.spots in
@@ -110,5 +115,6 @@ taken_can sums level before from after can all few is =
       forces = stayed.forces ∙ can.forces ∙ sym spots;
       few = omega (arith, spots, can.few);
       sound = subst (All IsSound) (sym (same_rows sums before from after is)) can.sound;
+      extent = same_extent sums before from after is can.extent;
       room = room_left sums level before from after can all few is;
     }

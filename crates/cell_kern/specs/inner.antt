@@ -1,4 +1,3 @@
 -- Definitions between private functions: no public clause cites them.
-pub mod Extents
 pub mod Gathered
 pub mod Taking

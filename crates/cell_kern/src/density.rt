@@ -1,12 +1,12 @@
 //! The densities of pairs: each pair is looked at once, and gives to each of its two that is due.
-ghost use Rattle.std.specs.Prelude.{◌≡◌, ℕ, ◌+◌, ◌*◌, ◌<◌, ◌≤◌, ◌^◌, true, fold, length, if◌then◌else◌};
+ghost use Rattle.std.specs.Prelude.{◌≡◌, ◌+◌, ◌<◌, ◌≤◌, ◌^◌, true, fold, length, if◌then◌else◌};
 ghost use Rattle.std.specs.List.{between};
 ghost use Rattle.sph_num.specs.Density.{density_within};
-ghost use Rattle.cell_kern.specs.inner.Extents.{AreWithin};
+ghost use Rattle.cell_block.specs.Extents.{AreWithin};
 ghost use Rattle.cell_kern.specs.inner.Gathered.{AreBelow, AreMembers, IsPassed, IsSound, gathered, list_of, rho_given};
 
-use crate::extent::Extent;
 use crate::members::{Member, Members};
+use cell_block::Extent;
 use sph_num::{Pull, Tables, dist2};
 
 /// Adds what the members of one list give to one another, each to itself too.

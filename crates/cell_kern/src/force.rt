@@ -2,14 +2,13 @@
 //! is due, with the sign turned for the second.
 ghost use Rattle.std.specs.Prelude.{◌≡◌, ℕ, ◌<◌, ◌≤◌, ◌*◌, ◌^◌, true, pos, ◌+ℤ◌, ◌-ℤ◌, ◌*ℤ◌, unsigned_abs, fold, length, if◌then◌else◌};
 ghost use Rattle.std.specs.List.{between};
-ghost use Rattle.sph_num.specs.Space.{IsPlace, box_side, dist2, minimal};
+ghost use Rattle.sph_num.specs.Space.{IsPlace, box_side, minimal};
 ghost use Rattle.sph_num.specs.Totals.{component, vector_of};
-ghost use Rattle.cell_kern.specs.inner.Extents.{AreWithin};
+ghost use Rattle.cell_block.specs.Extents.{AreWithin};
 ghost use Rattle.cell_kern.specs.inner.Gathered.{AreMembers, AreNarrow, IsNarrow, IsPassed, IsSmall, IsSound, force_given, gathered, list_of, pull_along};
 
-use crate::extent::Extent;
 use crate::members::{Member, Members};
-use cell_block::Spot;
+use cell_block::{Extent, Spot};
 use sph_num::{Pull, Tables, dist2, minimal};
 
 /// Adds what the members of one list give to one another.

@@ -3,7 +3,6 @@
 
 mod blocks;
 mod density;
-mod extent;
 mod force;
 mod members;
 mod tasks;

@@ -5,15 +5,15 @@ ghost use Rattle.cell_block.specs.Blocks.{AreAdded, AreReady};
 ghost use Rattle.cell_block.specs.Scene.{IsGoodScene, line_at};
 ghost use Rattle.cell_block.specs.Tasks.{IsTask};
 ghost use Rattle.cell_kern.specs.Tasks.{second_of};
-ghost use Rattle.cell_kern.specs.inner.Taking.{AreMarked, AreOpen, kind_of};
+ghost use Rattle.cell_kern.specs.inner.Taking.{AreMarked, KeepTask, kind_of};
 
 use crate::blocks::{Sums, add_between, add_within};
-use cell_block::{BoxedBlock, Scene};
+use cell_block::{Block, Scene};
 use sph_num::Tables;
 
 /// Adds the densities of a task on one cell: each pair of its members, and each member with itself. Only due
 /// members are given to. The blocks are those of the cell's leaves in order.
-pub fn density_self(scene: &Scene, tables: &Tables, task: u32, blocks: &mut [BoxedBlock])
+pub fn density_self(scene: &Scene, tables: &Tables, task: u32, blocks: &mut [Block])
     requires scene { IsGoodScene scene.now }
     requires task { IsTask scene.now Density task }
     requires one_cell { (line_at scene.now task).second ≡ None }
@@ -24,7 +24,7 @@ pub fn density_self(scene: &Scene, tables: &Tables, task: u32, blocks: &mut [Box
 }
 
 /// Adds the forces of a task on one cell, as `density_self` does the densities; no member gives itself one.
-pub fn force_self(scene: &Scene, tables: &Tables, task: u32, blocks: &mut [BoxedBlock])
+pub fn force_self(scene: &Scene, tables: &Tables, task: u32, blocks: &mut [Block])
     requires scene { IsGoodScene scene.now }
     requires task { IsTask scene.now Force task }
     requires one_cell { (line_at scene.now task).second ≡ None }
@@ -40,8 +40,8 @@ pub fn density_pair(
     scene: &Scene,
     tables: &Tables,
     task: u32,
-    first: &mut [BoxedBlock],
-    second: &mut [BoxedBlock],
+    first: &mut [Block],
+    second: &mut [Block],
 )
     requires scene { IsGoodScene scene.now }
     requires task { IsTask scene.now Density task }
@@ -59,8 +59,8 @@ pub fn force_pair(
     scene: &Scene,
     tables: &Tables,
     task: u32,
-    first: &mut [BoxedBlock],
-    second: &mut [BoxedBlock],
+    first: &mut [Block],
+    second: &mut [Block],
 )
     requires scene { IsGoodScene scene.now }
     requires task { IsTask scene.now Force task }
@@ -74,7 +74,7 @@ pub fn force_pair(
 }
 
 /// A task on one cell. The scene is there for the contract alone.
-fn add_self(_scene: &Scene, tables: &Tables, sums: Sums, task: u32, blocks: &mut [BoxedBlock])
+fn add_self(_scene: &Scene, tables: &Tables, sums: Sums, task: u32, blocks: &mut [Block])
     requires scene { IsGoodScene _scene.now }
     requires task { IsTask _scene.now (kind_of sums) task }
     requires one_cell { (line_at _scene.now task).second ≡ None }
@@ -91,8 +91,8 @@ fn add_pair(
     tables: &Tables,
     sums: Sums,
     task: u32,
-    first: &mut [BoxedBlock],
-    second: &mut [BoxedBlock],
+    first: &mut [Block],
+    second: &mut [Block],
 )
     requires scene { IsGoodScene _scene.now }
     requires task { IsTask _scene.now (kind_of sums) task }
@@ -108,8 +108,8 @@ fn add_pair(
 }
 
 /// Marks the task as done on each block.
-fn mark_all(task: u32, blocks: &mut [BoxedBlock])
-    requires { AreOpen task blocks.old }
+fn mark_all(task: u32, blocks: &mut [Block])
+    requires { KeepTask task blocks.old }
     ensures { AreMarked task blocks.old blocks.new }
 {
     for block in blocks.iter_mut() {

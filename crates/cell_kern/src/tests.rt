@@ -1,14 +1,11 @@
 //! The worked pair of particles over lists: the turned sign, and a pair across the face. Whole tasks on the blocks of
 //! scenes are tested where the ghosts and the kicks stand.
-ghost use Rattle.std.specs.Prelude.{◌≡◌, ◌<◌, [], ◌∷◌, length};
-ghost use Rattle.sph_num.specs.Space.{box_side};
-ghost use Rattle.cell_kern.specs.inner.Gathered.{AreMembers};
+ghost use Rattle.std.specs.Prelude.{◌≡◌, [], ◌∷◌};
 
 use crate::density::density_between;
-use crate::extent::Extent;
 use crate::force::{force_between, force_within};
 use crate::members::Members;
-use cell_block::Spot;
+use cell_block::{Extent, Spot};
 use sph_num::{BOX_SIDE, Length, Pull, Tables};
 use std::alloc::AllocError;
 

@@ -1,5 +1,5 @@
 -- From what a task on a leaf wrote into a list of its block to the task added.
-use Rattle.std.proofs.Common.{◌≡◌, ℕ, ◌<◌, ◌≤◌, ◌||◌, Bool, true, false, inl, inr, if◌then◌else◌, List, [], length, map, get_or, All, Contains, refl, sym, ap, ◌∙◌, arith}
+use Rattle.std.proofs.Common.{◌≡◌, ℕ, ◌<◌, ◌≤◌, ◌||◌, Bool, true, false, inl, inr, if◌then◌else◌, List, [], length, map, get_or, All, Contains, subst, refl, sym, ap, ◌∙◌, arith}
 use Rattle.std.specs.Prelude.{⊤}
 use Rattle.std.proofs.lemmas.Bool.{cases_Bool}
 use Rattle.std.proofs.lemmas.List.{get_or_default, get_or-map, length-map, map-id}
@@ -10,13 +10,15 @@ use Rattle.sph_num.specs.Density.{density_of}
 use Rattle.sph_num.specs.Force.{ghost_value}
 use Rattle.sph_num.specs.Kinds.{same_kind}
 use Rattle.sph_num.specs.Pull.{Puller, puller}
+use Rattle.sph_num.proofs.Drifts.{IsPlace-position_of}
 use Rattle.sph_bins.specs.Kick.{density_at}
 use Rattle.sph_bins.proofs.Narrow.{density_at-ge}
-use Rattle.cell_block.specs.declared.block.Block.{Block}
-use Rattle.cell_block.specs.declared.block.Spot.{Spot}
+use Rattle.cell_block.specs.declared.rows.BlockRows.{BlockRows}
+use Rattle.cell_block.specs.declared.rows.Spot.{Spot}
 use Rattle.cell_block.specs.declared.scene.Scene.{Scene}
 use Rattle.cell_block.specs.Blocks.{Agrees, AreDoneWith, IsAdded, IsReady, done_of, rest_of}
 use Rattle.cell_block.specs.Content.{is_done_on, met}
+use Rattle.cell_block.specs.Extents.{AreWithin, HavePlaces}
 use Rattle.cell_block.specs.Scene.{IsGoodScene, is_due_at, line_at, members_of, no_particle, particle_at, place_of, touches}
 use Rattle.cell_block.specs.Tasks.{IsMarked, IsTask}
 use Rattle.cell_block.proofs.Added.{IsSame, added}
@@ -68,11 +70,11 @@ not_of_pairs Density of = absurd of
 not_of_pairs Force of = absurd of
 
 -- the lists of a block hold what is done on it, and what a task of this kind makes of its members
-abbrev pub HoldsMade : Scene → Kind → ℕ → List ℕ → Block → Type 0
+abbrev pub HoldsMade : Scene → Kind → ℕ → List ℕ → BlockRows → Type 0
 HoldsMade scene kind leaf done block =
     HoldsParts scene leaf (done_with scene kind leaf done Drift) (done_with scene kind leaf done Ghost) (done_with scene kind leaf done Kick) (λ i. met scene Density done i) (λ i. met scene Force done i) block
 
-pub made_added : (scene : Scene) (kind : Kind) (task : ℕ) (before mid after : Block) → IsOfLeaves kind → IsGoodScene scene → IsTask scene kind task → IsReady scene task (leaf_of scene task) before → IsSame before mid
+pub made_added : (scene : Scene) (kind : Kind) (task : ℕ) (before mid after : BlockRows) → IsOfLeaves kind → IsGoodScene scene → IsTask scene kind task → IsReady scene task (leaf_of scene task) before → IsSame before mid
     → HoldsMade scene kind (leaf_of scene task) (done_of before) mid → IsMarked task mid after → IsAdded scene task (leaf_of scene task) before after
 made_added scene kind task before mid after of good is ready same made marked =
     let leaf = leaf_of scene task in
@@ -93,20 +95,26 @@ made_added scene kind task before mid after of good is ready same made marked =
 pub member_at : (scene : Scene) (leaf k : ℕ) → k < length (members_of scene leaf) → Contains (members_of scene leaf) (get_or (members_of scene leaf) k 0)
 member_at scene leaf k low = let ms = members_of scene leaf in (k, low, get_or_default ms k (get_or ms k 0) 0 low)
 
-pub members_inside : (scene : Scene) (leaf : ℕ) (block : Block) → IsGoodScene scene → Agrees scene leaf block → All (λ i. i < length scene.start) block.members.items
+pub members_inside : (scene : Scene) (leaf : ℕ) (block : BlockRows) → IsGoodScene scene → Agrees scene leaf block → All (λ i. i < length scene.start) block.members.items
 members_inside scene leaf block good agrees =
     rw agrees.members (All-from_Contains (λ i. i < length scene.start) (members_of scene leaf) (λ i at. member_inside scene leaf i good.leaves at))
 
--- a drift
+-- a drift, after which each member has a place
+pub have_places : (scene : Scene) (members : List ℕ) (before after : List Spot) → AreEach (spots_at scene members) before after → HavePlaces after
+have_places scene members before after are =
+    λ k d inside.
+    let i = get_or members k 0 in
+    rw (are.each k d (omega (arith, are.same_length))) (IsPlace-position_of scene.params.shift scene.tick (particle_at scene i))
+
 abbrev the_spot : ℕ → List ℕ → Spot
 the_spot h place = record { place = place; h = h }
 
 drifted_spot : (scene : Scene) (i : ℕ) → tick_spot scene i ≡ spot_with scene true i
 drifted_spot scene i = let p = particle_at scene i in ap (the_spot p.h) (sym (where_drifted scene.drift true p.x0 (place_of scene p) (λ is. refl)))
 
-pub drift_added : (scene : Scene) (task : ℕ) (before mid after : Block) → IsGoodScene scene → IsTask scene Drift task → IsReady scene task (leaf_of scene task) before → AreEach (spots_at scene before.members.items) before.spots.items mid.spots.items
-    → record mid { spots = before.spots } ≡ before → IsMarked task mid after → IsAdded scene task (leaf_of scene task) before after
-drift_added scene task before mid after good is ready written unchanged marked =
+pub drift_added : (scene : Scene) (task : ℕ) (before mid after : BlockRows) → IsGoodScene scene → IsTask scene Drift task → IsReady scene task (leaf_of scene task) before → AreEach (spots_at scene before.members.items) before.spots.items mid.spots.items
+    → record mid { spots = before.spots; extent = before.extent } ≡ before → AreWithin mid.extent mid.spots.items → IsMarked task mid after → IsAdded scene task (leaf_of scene task) before after
+drift_added scene task before mid after good is ready written unchanged within marked =
     let leaf = leaf_of scene task in
     let done = done_of before in
     let ms = members_of scene leaf in
@@ -115,15 +123,15 @@ drift_added scene task before mid after good is ready written unchanged marked =
     let none : Spot = record { place = []; h = 0 } in
     let long = ap length parts.spots ∙ length-map ms (spot_with scene (is_done_on scene Drift leaf done)) in
     made_added scene Drift task before mid after tt good is ready
-    (record { leaf = ap (λ (x : Block). x.leaf) unchanged; members = ap (λ (x : Block). x.members.items) unchanged; marks = ap (λ (x : Block). x.marks.items) unchanged; due = ap (λ (x : Block). x.due.items) unchanged })
+    (record { leaf = ap (λ (x : BlockRows). x.leaf) unchanged; members = ap (λ (x : BlockRows). x.members.items) unchanged; marks = ap (λ (x : BlockRows). x.marks.items) unchanged; due = ap (λ (x : BlockRows). x.due.items) unchanged; extent = within })
     (record {
       spots = sym (map-id mid.spots.items)
           ∙ written_of_members (λ s. s) (spots_at scene before.members.items) ms (spot_with scene true) before.spots.items mid.spots.items none long written
           (λ k low. ap (λ (xs : List ℕ). tick_spot scene (get_or xs k 0)) agrees.members ∙ drifted_spot scene (get_or ms k 0));
-      pulls = ap (λ (x : Block). x.pulls.items) unchanged ∙ parts.pulls;
-      rhos = ap (λ (x : Block). x.rhos.items) unchanged ∙ parts.rhos;
-      forces = ap (λ (x : Block). x.forces.items) unchanged ∙ parts.forces;
-      particles = ap (λ (x : Block). map rest_of x.particles.items) unchanged ∙ parts.particles;
+      pulls = ap (λ (x : BlockRows). x.pulls.items) unchanged ∙ parts.pulls;
+      rhos = ap (λ (x : BlockRows). x.rhos.items) unchanged ∙ parts.rhos;
+      forces = ap (λ (x : BlockRows). x.forces.items) unchanged ∙ parts.forces;
+      particles = ap (λ (x : BlockRows). map rest_of x.particles.items) unchanged ∙ parts.particles;
     })
     marked
 
@@ -133,17 +141,17 @@ made_pull : (due made : Bool) (sound h m rho rho' r v g : ℕ) → v ≡ ghost_v
 made_pull true made sound h m rho rho' r v g value whole = ap (λ x. puller h m (ghost_value sound x)) (whole refl) ∙ ap (puller h m) (sym value)
 made_pull false made sound h m rho rho' r v g value whole = refl
 
-whole_density : (scene : Scene) (task i : ℕ) (block : Block) → IsGoodScene scene → IsTask scene Ghost task → IsReady scene task (leaf_of scene task) block → Contains (members_of scene (leaf_of scene task)) i → is_due_at scene i ≡ true
+whole_density : (scene : Scene) (task i : ℕ) (block : BlockRows) → IsGoodScene scene → IsTask scene Ghost task → IsReady scene task (leaf_of scene task) block → Contains (members_of scene (leaf_of scene task)) i → is_due_at scene i ≡ true
     → density_of (place_of scene) (met scene Density (done_of block) i) (particle_at scene i) ≡ density_at scene.params scene.tick scene.start (particle_at scene i)
 whole_density scene task i block good is ready at due =
     let leaf = leaf_of scene task in
     densities_are_whole scene leaf (done_of block) i good (all_done scene Density Ghost task leaf block is refl (touches_its_leaf scene Ghost task tt good is) ready) at due
 
 -- the flags and the densities of the lists
-pub due_at : (scene : Scene) (leaf : ℕ) (block : Block) (k : ℕ) → Agrees scene leaf block → k < length (members_of scene leaf) → get_or block.due.items k false ≡ is_due_at scene (get_or (members_of scene leaf) k 0)
+pub due_at : (scene : Scene) (leaf : ℕ) (block : BlockRows) (k : ℕ) → Agrees scene leaf block → k < length (members_of scene leaf) → get_or block.due.items k false ≡ is_due_at scene (get_or (members_of scene leaf) k 0)
 due_at scene leaf block k agrees low = ap (λ (bs : List Bool). get_or bs k false) agrees.due ∙ get_or-map (is_due_at scene) (members_of scene leaf) k 0 false low
 
-rho_at : (scene : Scene) (leaf : ℕ) (block : Block) (k : ℕ) → Agrees scene leaf block → k < length (members_of scene leaf)
+rho_at : (scene : Scene) (leaf : ℕ) (block : BlockRows) (k : ℕ) → Agrees scene leaf block → k < length (members_of scene leaf)
     → get_or block.rhos.items k 0 ≡ rho_with scene (met scene Density (done_of block) (get_or (members_of scene leaf) k 0)) (get_or (members_of scene leaf) k 0)
 rho_at scene leaf block k agrees low =
     ap (λ (xs : List ℕ). get_or xs k 0) (parts_held scene leaf (done_of block) block agrees.rows).rhos
@@ -152,7 +160,7 @@ rho_at scene leaf block k agrees low =
 pub in_list : (scene : Scene) (i : ℕ) → i < length scene.start → Contains scene.start (particle_at scene i)
 in_list scene i inside = (i, inside, get_or_default scene.start i (particle_at scene i) no_particle inside)
 
-pub dense : (scene : Scene) (task : ℕ) (block : Block) → IsGoodScene scene → IsTask scene Ghost task → IsReady scene task (leaf_of scene task) block → (k : ℕ) → k < length block.pulls.items → get_or block.due.items k false ≡ true → 20 ≤ get_or block.rhos.items k 0
+pub dense : (scene : Scene) (task : ℕ) (block : BlockRows) → IsGoodScene scene → IsTask scene Ghost task → IsReady scene task (leaf_of scene task) block → (k : ℕ) → k < length block.pulls.items → get_or block.due.items k false ≡ true → 20 ≤ get_or block.rhos.items k 0
 dense scene task block good is ready k inside due =
     let leaf = leaf_of scene task in
     let ms = members_of scene leaf in
@@ -167,7 +175,7 @@ dense scene task block good is ready k inside due =
     rho_at scene leaf block k agrees low ∙ chosen (is_due_at scene i) (density_of (place_of scene) (met scene Density (done_of block) i) p) p.rho here ∙ whole_density scene task i block good is ready at here in
     rw rho (density_at-ge scene.params scene.bounds scene.tick scene.start p good.in_bounds (in_list scene i (member_inside scene leaf i good.leaves at)))
 
-pub ghost_added : (scene : Scene) (task : ℕ) (before mid after : Block) → IsGoodScene scene → IsTask scene Ghost task → IsReady scene task (leaf_of scene task) before → AreEach (ghosts_at scene.params.sound before.due.items before.rhos.items) before.pulls.items mid.pulls.items
+pub ghost_added : (scene : Scene) (task : ℕ) (before mid after : BlockRows) → IsGoodScene scene → IsTask scene Ghost task → IsReady scene task (leaf_of scene task) before → AreEach (ghosts_at scene.params.sound before.due.items before.rhos.items) before.pulls.items mid.pulls.items
     → record mid { pulls = before.pulls } ≡ before → IsMarked task mid after → IsAdded scene task (leaf_of scene task) before after
 ghost_added scene task before mid after good is ready written unchanged marked =
     let leaf = leaf_of scene task in
@@ -189,12 +197,12 @@ ghost_added scene task before mid after good is ready written unchanged marked =
     ∙ made_pull (is_due_at scene i) made sound p.h p.mass (density_of (place_of scene) others p) p.rho (density_at scene.params scene.tick scene.start p) (ghost_value sound (density_at scene.params scene.tick scene.start p)) p.g refl
     (λ due. whole_density scene task i before good is ready (member_at scene leaf k low) due) in
     made_added scene Ghost task before mid after tt good is ready
-    (record { leaf = ap (λ (x : Block). x.leaf) unchanged; members = ap (λ (x : Block). x.members.items) unchanged; marks = ap (λ (x : Block). x.marks.items) unchanged; due = ap (λ (x : Block). x.due.items) unchanged })
+    (record { leaf = ap (λ (x : BlockRows). x.leaf) unchanged; members = ap (λ (x : BlockRows). x.members.items) unchanged; marks = ap (λ (x : BlockRows). x.marks.items) unchanged; due = ap (λ (x : BlockRows). x.due.items) unchanged; extent = subst (λ (x : BlockRows). AreWithin x.extent x.spots.items) (sym unchanged) agrees.extent })
     (record {
-      spots = ap (λ (x : Block). x.spots.items) unchanged ∙ parts.spots;
+      spots = ap (λ (x : BlockRows). x.spots.items) unchanged ∙ parts.spots;
       pulls = sym (map-id mid.pulls.items) ∙ written_of_members (λ p. p) (ghosts_at sound before.due.items before.rhos.items) ms (pull_with scene true) before.pulls.items mid.pulls.items (puller 0 0 0) long written each;
-      rhos = ap (λ (x : Block). x.rhos.items) unchanged ∙ parts.rhos;
-      forces = ap (λ (x : Block). x.forces.items) unchanged ∙ parts.forces;
-      particles = ap (λ (x : Block). map rest_of x.particles.items) unchanged ∙ parts.particles;
+      rhos = ap (λ (x : BlockRows). x.rhos.items) unchanged ∙ parts.rhos;
+      forces = ap (λ (x : BlockRows). x.forces.items) unchanged ∙ parts.forces;
+      particles = ap (λ (x : BlockRows). map rest_of x.particles.items) unchanged ∙ parts.particles;
     })
     marked

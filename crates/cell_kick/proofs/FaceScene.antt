@@ -11,7 +11,7 @@ use Rattle.sph_num.specs.declared.kind.Kind.{Kind}
 use Rattle.sph_num.specs.declared.kind.Kind.TheVariants.{Density, Ghost, Force, Kick}
 use Rattle.sph_num.specs.Cover.{JustOne, MeetIn}
 use Rattle.sph_bins.specs.InBounds.{InBounds, IsAt, IsWithin}
-use Rattle.cell_block.specs.declared.block.Block.{Block}
+use Rattle.cell_block.specs.declared.rows.BlockRows.{BlockRows}
 use Rattle.cell_block.specs.declared.scene.Scene.{Scene}
 use Rattle.cell_block.specs.declared.scene.TaskLine.{TaskLine}
 use Rattle.cell_block.specs.Blocks.{AreAdded, AreReady}
@@ -183,21 +183,21 @@ both_second scene kind task is line =
     let same = ap (λ (s : Scene). line_at s task) is ∙ line in
     ap (λ (l : TaskLine). l.second) same ∙ sym (ap (λ (l : TaskLine). Some (second_of l)) same)
 
-pub first_ready : (scene : Scene) (kind : Kind) (task : ℕ) (block : Block) → scene ≡ across_face → line_at across_face task ≡ span_line kind both_span → HasFirst scene task 0 block → AreReady scene task (line_at scene task).first (block ∷ [])
+pub first_ready : (scene : Scene) (kind : Kind) (task : ℕ) (block : BlockRows) → scene ≡ across_face → line_at across_face task ≡ span_line kind both_span → HasFirst scene task 0 block → AreReady scene task (line_at scene task).first (block ∷ [])
 first_ready scene kind task block is line first =
     range_ready scene task 0 (line_at scene task).first block (ap (λ (l : TaskLine). l.first) (ap (λ (s : Scene). line_at s task) is ∙ line)) (rw is across_face_is_good) first
 
-pub second_ready : (scene : Scene) (kind : Kind) (task : ℕ) (block : Block) → scene ≡ across_face → line_at across_face task ≡ span_line kind both_span → HasFirst scene task 1 block → AreReady scene task (second_of (line_at scene task)) (block ∷ [])
+pub second_ready : (scene : Scene) (kind : Kind) (task : ℕ) (block : BlockRows) → scene ≡ across_face → line_at across_face task ≡ span_line kind both_span → HasFirst scene task 1 block → AreReady scene task (second_of (line_at scene task)) (block ∷ [])
 second_ready scene kind task block is line first =
     range_ready scene task 1 (second_of (line_at scene task)) block (ap second_of (ap (λ (s : Scene). line_at s task) is ∙ line)) (rw is across_face_is_good) first
 
-pub first_added : (scene : Scene) (kind : Kind) (task : ℕ) (before : Block) (after : List Block) → scene ≡ across_face → line_at across_face task ≡ span_line kind both_span → HasFirst scene task 0 before → AreAdded scene task (line_at scene task).first (before ∷ []) after → HasFirst scene (task + 1) 0 (get_or after 0 before)
+pub first_added : (scene : Scene) (kind : Kind) (task : ℕ) (before : BlockRows) (after : List BlockRows) → scene ≡ across_face → line_at across_face task ≡ span_line kind both_span → HasFirst scene task 0 before → AreAdded scene task (line_at scene task).first (before ∷ []) after → HasFirst scene (task + 1) 0 (get_or after 0 before)
 first_added scene kind task before after is line first are = range_added scene task 0 (line_at scene task).first before after (ap (λ (l : TaskLine). l.first) (ap (λ (s : Scene). line_at s task) is ∙ line)) first are
 
-pub second_added : (scene : Scene) (kind : Kind) (task : ℕ) (before : Block) (after : List Block) → scene ≡ across_face → line_at across_face task ≡ span_line kind both_span → HasFirst scene task 1 before → AreAdded scene task (second_of (line_at scene task)) (before ∷ []) after
+pub second_added : (scene : Scene) (kind : Kind) (task : ℕ) (before : BlockRows) (after : List BlockRows) → scene ≡ across_face → line_at across_face task ≡ span_line kind both_span → HasFirst scene task 1 before → AreAdded scene task (second_of (line_at scene task)) (before ∷ []) after
     → HasFirst scene (task + 1) 1 (get_or after 0 before)
 second_added scene kind task before after is line first are = range_added scene task 1 (second_of (line_at scene task)) before after (ap second_of (ap (λ (s : Scene). line_at s task) is ∙ line)) first are
 
 -- the second leaf is left by the others
-pub second_skips : (scene : Scene) (task : ℕ) (block : Block) → scene ≡ across_face → touches (line_at across_face task) 1 ≡ false → HasFirst scene task 1 block → HasFirst scene (task + 1) 1 block
+pub second_skips : (scene : Scene) (task : ℕ) (block : BlockRows) → scene ≡ across_face → touches (line_at across_face task) 1 ≡ false → HasFirst scene task 1 block → HasFirst scene (task + 1) 1 block
 second_skips scene task block is apart first = skip_first scene task 1 block first (ap (λ (s : Scene). touches (line_at s task) 1) is ∙ apart)

@@ -9,7 +9,7 @@ use Rattle.lists.proofs.Elements.{Contains-head, Contains-later, Contains-nil}
 use Rattle.sph_num.specs.declared.kind.Kind.{Kind}
 use Rattle.sph_num.specs.declared.kind.Kind.TheVariants.{Drift, Density, Ghost, Force, Kick}
 use Rattle.sph_num.specs.Kinds.{waits_for}
-use Rattle.cell_block.specs.declared.block.Block.{Block}
+use Rattle.cell_block.specs.declared.rows.BlockRows.{BlockRows}
 use Rattle.cell_block.specs.declared.scene.Scene.{Scene}
 use Rattle.cell_block.specs.declared.scene.TaskLine.{TaskLine}
 use Rattle.cell_block.specs.Blocks.{Agrees, AreAdded, AreReady, IsAdded, IsReady, done_of}
@@ -105,17 +105,17 @@ path_rises scene before [] after good edge = edge_rises scene before after good 
 path_rises scene before (task ∷ path) after good steps = omega (arith, edge_rises scene before task good steps.0, path_rises scene task path after good steps.1)
 
 -- a block on which nothing is done, and one on which the next task is done, or which this doesn't touch
-pub none_first : (scene : Scene) (leaf : ℕ) (block : Block) → Agrees scene leaf block → done_of block ≡ [] → HasFirst scene 0 leaf block
+pub none_first : (scene : Scene) (leaf : ℕ) (block : BlockRows) → Agrees scene leaf block → done_of block ≡ [] → HasFirst scene 0 leaf block
 none_first scene leaf block agrees none = record { agrees = agrees; below = λ t at. absurd (Contains-nil t (rw none at at)); done = λ t low touched. absurd (omega arith) }
 
-pub next_first : (scene : Scene) (task leaf : ℕ) (before after : Block) → HasFirst scene task leaf before → IsAdded scene task leaf before after → HasFirst scene (task + 1) leaf after
+pub next_first : (scene : Scene) (task leaf : ℕ) (before after : BlockRows) → HasFirst scene task leaf before → IsAdded scene task leaf before after → HasFirst scene (task + 1) leaf after
 next_first scene task leaf before after first added = record {
   agrees = added.agrees;
   below = λ t at. elim ((added.tasks t).0 at) [ inl old ↦ let low = first.below t old in omega (arith, low) | inr new ↦ omega (arith, new) ];
   done = λ t low touched. (added.tasks t).1 (elim (cases_eq t task) [ inl same ↦ inr same | inr other ↦ inl (first.done t (omega arith) touched) ]);
 }
 
-pub skip_first : (scene : Scene) (task leaf : ℕ) (block : Block) → HasFirst scene task leaf block → touches (line_at scene task) leaf ≡ false → HasFirst scene (task + 1) leaf block
+pub skip_first : (scene : Scene) (task leaf : ℕ) (block : BlockRows) → HasFirst scene task leaf block → touches (line_at scene task) leaf ≡ false → HasFirst scene (task + 1) leaf block
 skip_first scene task leaf block first apart = record {
   agrees = first.agrees;
   below = λ t at. let low = first.below t at in omega (arith, low);
@@ -126,7 +126,7 @@ skip_first scene task leaf block first apart = record {
 }
 
 -- it is ready for the next
-pub ready_first : (scene : Scene) (task leaf : ℕ) (block : Block) → IsGoodScene scene → HasFirst scene task leaf block → IsReady scene task leaf block
+pub ready_first : (scene : Scene) (task leaf : ℕ) (block : BlockRows) → IsGoodScene scene → HasFirst scene task leaf block → IsReady scene task leaf block
 ready_first scene task leaf block good first = record {
   agrees = first.agrees;
   not_done = λ at. let low = first.below task at in absurd (omega (arith, low));
@@ -134,14 +134,14 @@ ready_first scene task leaf block good first = record {
 }
 
 -- a range of one leaf
-at_one : (scene : Scene) (task leaf : ℕ) (block : Block) → IsReady scene task leaf block → (k : ℕ) (d : Block) → k < length (block ∷ []) → IsReady scene task (leaf + k) (get_or (block ∷ []) k d)
+at_one : (scene : Scene) (task leaf : ℕ) (block : BlockRows) → IsReady scene task leaf block → (k : ℕ) (d : BlockRows) → k < length (block ∷ []) → IsReady scene task (leaf + k) (get_or (block ∷ []) k d)
 at_one scene task leaf block ready zero d low = let same : leaf ≡ leaf + 0 = omega arith in subst (λ (n : ℕ). IsReady scene task n block) same ready
 at_one scene task leaf block ready (suc k) d low = absurd (omega arith)
 
-pub range_ready : (scene : Scene) (task leaf : ℕ) (range : ℕ × ℕ) (block : Block) → range ≡ (leaf, leaf + 1) → IsGoodScene scene → HasFirst scene task leaf block → AreReady scene task range (block ∷ [])
+pub range_ready : (scene : Scene) (task leaf : ℕ) (range : ℕ × ℕ) (block : BlockRows) → range ≡ (leaf, leaf + 1) → IsGoodScene scene → HasFirst scene task leaf block → AreReady scene task range (block ∷ [])
 range_ready scene task leaf range block is good first = rw is (record { one_each = omega arith; ready = at_one scene task leaf block (ready_first scene task leaf block good first) })
 
-pub range_added : (scene : Scene) (task leaf : ℕ) (range : ℕ × ℕ) (before : Block) (after : List Block) → range ≡ (leaf, leaf + 1) → HasFirst scene task leaf before → AreAdded scene task range (before ∷ []) after → HasFirst scene (task + 1) leaf (get_or after 0 before)
+pub range_added : (scene : Scene) (task leaf : ℕ) (range : ℕ × ℕ) (before : BlockRows) (after : List BlockRows) → range ≡ (leaf, leaf + 1) → HasFirst scene task leaf before → AreAdded scene task range (before ∷ []) after → HasFirst scene (task + 1) leaf (get_or after 0 before)
 range_added scene task leaf range before after is first are =
     let same : range.0 + 0 ≡ leaf = ap (λ (r : ℕ × ℕ). r.0 + 0) is ∙ omega arith in
     next_first scene task leaf before (get_or after 0 before) first (subst (λ (n : ℕ). IsAdded scene task n before (get_or after 0 before)) same (are.added 0 before (omega arith)))
@@ -150,11 +150,11 @@ range_added scene task leaf range before after is first are =
 pub leaf_task : (scene : Scene) (kind : Kind) (task leaf : ℕ) → task < length scene.tasks → line_at scene task ≡ leaf_line kind leaf → IsTask scene kind task
 leaf_task scene kind task leaf low is = record { number = low; is_kind = ap (λ (line : TaskLine). line.kind) is }
 
-pub leaf_ready : (scene : Scene) (kind : Kind) (task leaf : ℕ) (block : Block) → line_at scene task ≡ leaf_line kind leaf → IsGoodScene scene → HasFirst scene task leaf block → IsReady scene task (line_at scene task).first.0 block
+pub leaf_ready : (scene : Scene) (kind : Kind) (task leaf : ℕ) (block : BlockRows) → line_at scene task ≡ leaf_line kind leaf → IsGoodScene scene → HasFirst scene task leaf block → IsReady scene task (line_at scene task).first.0 block
 leaf_ready scene kind task leaf block is good first =
     let same : (line_at scene task).first.0 ≡ leaf = ap (λ (line : TaskLine). line.first.0) is in rw same (ready_first scene task leaf block good first)
 
-pub leaf_added : (scene : Scene) (kind : Kind) (task leaf : ℕ) (before after : Block) → line_at scene task ≡ leaf_line kind leaf → HasFirst scene task leaf before → IsAdded scene task (line_at scene task).first.0 before after → HasFirst scene (task + 1) leaf after
+pub leaf_added : (scene : Scene) (kind : Kind) (task leaf : ℕ) (before after : BlockRows) → line_at scene task ≡ leaf_line kind leaf → HasFirst scene task leaf before → IsAdded scene task (line_at scene task).first.0 before after → HasFirst scene (task + 1) leaf after
 leaf_added scene kind task leaf before after is first added =
     let same : (line_at scene task).first.0 ≡ leaf = ap (λ (line : TaskLine). line.first.0) is in
     next_first scene task leaf before after first (subst (λ (n : ℕ). IsAdded scene task n before after) same added)

@@ -1,5 +1,5 @@
 -- From what a kick wrote into the particles of its block to the task added.
-use Rattle.std.proofs.Common.{◌≡◌, ℕ, zero, suc, ◌+◌, ◌-◌, ◌*◌, ◌^◌, ◌<◌, ◌≤◌, Bool, true, false, if◌then◌else◌, List, [], length, get_or, refl, sym, ap, ◌∙◌, arith}
+use Rattle.std.proofs.Common.{◌≡◌, ℕ, zero, suc, ◌+◌, ◌-◌, ◌*◌, ◌^◌, ◌<◌, ◌≤◌, Bool, true, false, if◌then◌else◌, List, [], length, get_or, subst, refl, sym, ap, ◌∙◌, arith}
 use Rattle.std.specs.Prelude.{ℤ, unsigned_abs}
 use Rattle.std.proofs.lemmas.List.{get_or-map, length-map}
 use Rattle.std.proofs.lemmas.Nat.{mul-le, pow_pos}
@@ -15,11 +15,12 @@ use Rattle.sph_bins.specs.InBounds.{IsAt}
 use Rattle.sph_bins.specs.Kick.{force_at, ghost_at, kicked, kicked_with}
 use Rattle.sph_bins.proofs.Narrow.{force_at-le}
 use Rattle.sph_bins.proofs.Room.{pow-le}
-use Rattle.cell_block.specs.declared.block.Block.{Block}
-use Rattle.cell_block.specs.declared.block.Spot.{Spot}
+use Rattle.cell_block.specs.declared.rows.BlockRows.{BlockRows}
+use Rattle.cell_block.specs.declared.rows.Spot.{Spot}
 use Rattle.cell_block.specs.declared.scene.Scene.{Scene}
 use Rattle.cell_block.specs.Blocks.{Agrees, IsAdded, IsReady, done_of, rest_of}
 use Rattle.cell_block.specs.Content.{is_done_on, met}
+use Rattle.cell_block.specs.Extents.{AreWithin}
 use Rattle.cell_block.specs.Scene.{IsGoodScene, is_due_at, members_of, no_particle, particle_at, place_of}
 use Rattle.cell_block.specs.Tasks.{IsMarked, IsTask}
 use Rattle.cell_block.proofs.Done.{chosen}
@@ -77,13 +78,13 @@ rest_unkicked true k q = refl
 rest_unkicked false k q = refl
 
 -- the lists of a block, as a kick reads them
-pub record AreOf (block : Block) (summed : Summed) : Type 0 where
+pub record AreOf (block : BlockRows) (summed : Summed) : Type 0 where
   pub spots : summed.spots.now ≡ block.spots.items
   pub due : summed.due.now ≡ block.due.items
   pub forces : summed.forces.now ≡ block.forces.items
 
 -- a member of a block that is ready for its kick: the rest of it is as it was, and the force on it and its place are those at the tick
-rest_at : (scene : Scene) (task : ℕ) (block : Block) (k : ℕ) → IsGoodScene scene → IsTask scene Kick task → IsReady scene task (leaf_of scene task) block → k < length block.particles.items → k < length (members_of scene (leaf_of scene task))
+rest_at : (scene : Scene) (task : ℕ) (block : BlockRows) (k : ℕ) → IsGoodScene scene → IsTask scene Kick task → IsReady scene task (leaf_of scene task) block → k < length block.particles.items → k < length (members_of scene (leaf_of scene task))
     → rest_of (get_or block.particles.items k no_particle) ≡ rest_of (particle_at scene (get_or (members_of scene (leaf_of scene task)) k 0))
 rest_at scene task block k good is ready inside low =
     let leaf = leaf_of scene task in
@@ -97,7 +98,7 @@ rest_at scene task block k good is ready inside low =
     sym (get_or-map rest_of block.particles.items k no_particle no_particle inside) ∙ ap (λ (ps : List Particle). get_or ps k no_particle) parts.particles ∙ get_or-map (rest_with scene kicks) ms k 0 no_particle low
     ∙ ap (λ b. rest_with scene b i) none ∙ rest_unkicked (is_due_at scene i) (kicked scene.params scene.tick scene.start p) p
 
-force_here : (scene : Scene) (task : ℕ) (block : Block) (k : ℕ) → IsGoodScene scene → IsTask scene Kick task → IsReady scene task (leaf_of scene task) block → k < length (members_of scene (leaf_of scene task))
+force_here : (scene : Scene) (task : ℕ) (block : BlockRows) (k : ℕ) → IsGoodScene scene → IsTask scene Kick task → IsReady scene task (leaf_of scene task) block → k < length (members_of scene (leaf_of scene task))
     → is_due_at scene (get_or (members_of scene (leaf_of scene task)) k 0) ≡ true
     → get_or block.forces.items k [] ≡ force_at scene.params scene.tick scene.start (particle_at scene (get_or (members_of scene (leaf_of scene task)) k 0))
 force_here scene task block k good is ready low due =
@@ -112,7 +113,7 @@ force_here scene task block k good is ready low due =
     ∙ chosen (is_due_at scene i) (force_of (place_of scene) (ghost_at scene.params scene.tick scene.start) others p) p.f due
     ∙ forces_are_whole scene leaf done i good (all_done scene Force Kick task leaf block is refl touched ready) (member_at scene leaf k low) due
 
-place_here : (scene : Scene) (task : ℕ) (block : Block) (k : ℕ) → IsGoodScene scene → IsTask scene Kick task → IsReady scene task (leaf_of scene task) block → k < length (members_of scene (leaf_of scene task))
+place_here : (scene : Scene) (task : ℕ) (block : BlockRows) (k : ℕ) → IsGoodScene scene → IsTask scene Kick task → IsReady scene task (leaf_of scene task) block → k < length (members_of scene (leaf_of scene task))
     → is_due_at scene (get_or (members_of scene (leaf_of scene task)) k 0) ≡ true
     → (get_or block.spots.items k (record { place = []; h = 0 })).place ≡ place_of scene (particle_at scene (get_or (members_of scene (leaf_of scene task)) k 0))
 place_here scene task block k good is ready low due =
@@ -127,12 +128,12 @@ place_here scene task block k good is ready low due =
     ap (λ (ss : List Spot). (get_or ss k none).place) (parts_held scene leaf done block ready.agrees.rows).spots ∙ ap (λ (s : Spot). s.place) (get_or-map (spot_with scene drifted) ms k 0 none low)
     ∙ where_drifted scene.drift drifted p.x0 (place_of scene p) (λ drifts. drift_done scene good task leaf i block is touched ready drifts (member_at scene leaf k low) due)
 
-low_of : (scene : Scene) (leaf : ℕ) (block : Block) (k : ℕ) → Agrees scene leaf block → k < length block.particles.items → k < length (members_of scene leaf)
+low_of : (scene : Scene) (leaf : ℕ) (block : BlockRows) (k : ℕ) → Agrees scene leaf block → k < length block.particles.items → k < length (members_of scene leaf)
 low_of scene leaf block k agrees inside =
     let kicks = is_done_on scene Kick leaf (done_of block) in
     omega (arith, inside, ap length (parts_held scene leaf (done_of block) block agrees.rows).particles, length-map block.particles.items rest_of, length-map (members_of scene leaf) (rest_with scene kicks))
 
-pub can_kick : (scene : Scene) (task : ℕ) (block : Block) (summed : Summed) → IsGoodScene scene → IsTask scene Kick task → IsReady scene task (leaf_of scene task) block → AreOf block summed
+pub can_kick : (scene : Scene) (task : ℕ) (block : BlockRows) (summed : Summed) → IsGoodScene scene → IsTask scene Kick task → IsReady scene task (leaf_of scene task) block → AreOf block summed
     → (k : ℕ) → k < length block.particles.items → get_or summed.due.now k false ≡ true → CanKick scene summed k (get_or block.particles.items k no_particle)
 can_kick scene task block summed good is ready are k inside flag =
     let leaf = leaf_of scene task in
@@ -155,7 +156,7 @@ can_kick scene task block summed good is ready are k inside flag =
       momentum = rw momentum sound.near.momentum;
     }
 
-pub kick_added : (scene : Scene) (task : ℕ) (before mid after : Block) (summed : Summed) → IsGoodScene scene → IsTask scene Kick task → IsReady scene task (leaf_of scene task) before → AreOf before summed → AreEach (kick_at scene summed) before.particles.items mid.particles.items
+pub kick_added : (scene : Scene) (task : ℕ) (before mid after : BlockRows) (summed : Summed) → IsGoodScene scene → IsTask scene Kick task → IsReady scene task (leaf_of scene task) before → AreOf before summed → AreEach (kick_at scene summed) before.particles.items mid.particles.items
     → record mid { particles = before.particles } ≡ before → IsMarked task mid after → IsAdded scene task (leaf_of scene task) before after
 kick_added scene task before mid after summed good is ready are written unchanged marked =
     let leaf = leaf_of scene task in
@@ -177,12 +178,12 @@ kick_added scene task before mid after summed good is ready are written unchange
     (λ due. kicked_rest scene p q (force_at_index summed k) rest (ap (λ (fs : List (List ℤ)). get_or fs k []) are.forces ∙ force_here scene task before k good is ready low due))
     rest in
     made_added scene Kick task before mid after tt good is ready
-    (record { leaf = ap (λ (x : Block). x.leaf) unchanged; members = ap (λ (x : Block). x.members.items) unchanged; marks = ap (λ (x : Block). x.marks.items) unchanged; due = ap (λ (x : Block). x.due.items) unchanged })
+    (record { leaf = ap (λ (x : BlockRows). x.leaf) unchanged; members = ap (λ (x : BlockRows). x.members.items) unchanged; marks = ap (λ (x : BlockRows). x.marks.items) unchanged; due = ap (λ (x : BlockRows). x.due.items) unchanged; extent = subst (λ (x : BlockRows). AreWithin x.extent x.spots.items) (sym unchanged) agrees.extent })
     (record {
-      spots = ap (λ (x : Block). x.spots.items) unchanged ∙ parts.spots;
-      pulls = ap (λ (x : Block). x.pulls.items) unchanged ∙ parts.pulls;
-      rhos = ap (λ (x : Block). x.rhos.items) unchanged ∙ parts.rhos;
-      forces = ap (λ (x : Block). x.forces.items) unchanged ∙ parts.forces;
+      spots = ap (λ (x : BlockRows). x.spots.items) unchanged ∙ parts.spots;
+      pulls = ap (λ (x : BlockRows). x.pulls.items) unchanged ∙ parts.pulls;
+      rhos = ap (λ (x : BlockRows). x.rhos.items) unchanged ∙ parts.rhos;
+      forces = ap (λ (x : BlockRows). x.forces.items) unchanged ∙ parts.forces;
       particles = written_of_members rest_of (kick_at scene summed) ms (rest_with scene true) before.particles.items mid.particles.items no_particle long written each;
     })
     marked

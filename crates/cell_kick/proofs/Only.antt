@@ -10,7 +10,7 @@ use Rattle.lists.proofs.Ranges.{range-within}
 use Rattle.sph_num.specs.declared.kind.Kind.{Kind}
 use Rattle.sph_num.specs.declared.kind.Kind.TheVariants.{Drift, Density, Ghost, Force, Kick}
 use Rattle.sph_num.specs.Kinds.{same_kind}
-use Rattle.cell_block.specs.declared.block.Block.{Block}
+use Rattle.cell_block.specs.declared.rows.BlockRows.{BlockRows}
 use Rattle.cell_block.specs.declared.scene.Scene.{Scene}
 use Rattle.cell_block.specs.declared.scene.TaskLine.{TaskLine}
 use Rattle.cell_block.specs.Blocks.{IsReady, done_of}
@@ -114,7 +114,7 @@ kick_line scene good task leaf is touched =
     on.is ∙ ap (leaf_line Kick) (touched_leaf line.first.0 leaf here)
 
 -- so a block that is ready for its kick isn't kicked
-pub not_kicked : (scene : Scene) (good : IsGoodScene scene) (task leaf : ℕ) (block : Block) → IsTask scene Kick task → touches (line_at scene task) leaf ≡ true → IsReady scene task leaf block → is_done_on scene Kick leaf (done_of block) ≡ false
+pub not_kicked : (scene : Scene) (good : IsGoodScene scene) (task leaf : ℕ) (block : BlockRows) → IsTask scene Kick task → touches (line_at scene task) leaf ≡ true → IsReady scene task leaf block → is_done_on scene Kick leaf (done_of block) ≡ false
 not_kicked scene good task leaf block is touched ready =
     let p = λ (t : ℕ). same_kind (line_at scene t).kind Kick && touches (line_at scene t) leaf in
     elim (cases_Bool (is_done_on scene Kick leaf (done_of block))) [

@@ -2,7 +2,7 @@
 use Rattle.std.proofs.Common.{◌≡◌, ℕ, true, List, [], ◌∷◌, Contains, subst, refl, ap, ◌∙◌}
 use Rattle.lists.proofs.Places.{Contains-from_slice_get}
 use Rattle.sph_num.specs.declared.kind.Kind.TheVariants.{Drift, Density, Ghost, Force, Kick}
-use Rattle.cell_block.specs.declared.block.Block.{Block}
+use Rattle.cell_block.specs.declared.rows.BlockRows.{BlockRows}
 use Rattle.cell_block.specs.declared.scene.Scene.{Scene}
 use Rattle.cell_block.specs.declared.scene.TaskLine.{TaskLine}
 use Rattle.cell_block.specs.Blocks.{IsReady, done_of}
@@ -63,6 +63,6 @@ drift_before_kick scene good task leaf i is touched drifts at due =
       );
     }
 
-pub drift_done : (scene : Scene) (good : IsGoodScene scene) (task leaf i : ℕ) (block : Block) → IsTask scene Kick task → touches (line_at scene task) leaf ≡ true → IsReady scene task leaf block → scene.drift ≡ true → Contains (members_of scene leaf) i → is_due_at scene i ≡ true
+pub drift_done : (scene : Scene) (good : IsGoodScene scene) (task leaf i : ℕ) (block : BlockRows) → IsTask scene Kick task → touches (line_at scene task) leaf ≡ true → IsReady scene task leaf block → scene.drift ≡ true → Contains (members_of scene leaf) i → is_due_at scene i ≡ true
     → is_done_on scene Drift leaf (done_of block) ≡ true
 drift_done scene good task leaf i block is touched ready drifts at due = done_before scene Drift leaf task block (drift_before_kick scene good task leaf i is touched drifts at due) ready

@@ -12,7 +12,7 @@ use Rattle.sph_num.specs.Ranges.{AreBoundsInRange, AreParamsInRange}
 use Rattle.sph_num.specs.Space.{IsPlace, box_side}
 use Rattle.sph_num.specs.Totals.{component, zero_vector}
 use Rattle.sph_bins.specs.InBounds.{InBounds, IsAt, IsWithin}
-use Rattle.cell_block.specs.declared.block.Block.{Block}
+use Rattle.cell_block.specs.declared.rows.BlockRows.{BlockRows}
 use Rattle.cell_block.specs.declared.scene.Scene.{Scene}
 use Rattle.cell_block.specs.declared.scene.TaskLine.{TaskLine}
 use Rattle.cell_block.specs.Blocks.{Agrees}
@@ -104,7 +104,7 @@ IsGoodScene-two_bins start leaves tasks drift start_is leaves_are tasks_are =
     (record { due = refl; within = omega arith }) are_in_bounds leaves_are refl tasks_are)
 
 -- the tasks that its block keeps where no drift is asked
-pub tasks_of-one_leaf : (scene : Scene) (block : Block) → scene.tasks ≡ one_leaf_lines false → Agrees scene 0 block → tasks_of block ≡ 0 ∷ 1 ∷ 2 ∷ 3 ∷ []
+pub tasks_of-one_leaf : (scene : Scene) (block : BlockRows) → scene.tasks ≡ one_leaf_lines false → Agrees scene 0 block → tasks_of block ≡ 0 ∷ 1 ∷ 2 ∷ 3 ∷ []
 tasks_of-one_leaf scene block tasks agrees =
     agrees.tasks
     ∙ ap (λ (lines : List TaskLine). filter (λ task. touches (slice_index_or lines task (record { kind = Drift; first = (0, 0); second = None })) 0) (range_with_len 0 (length lines))) tasks

@@ -5,22 +5,24 @@ ghost use Rattle.cell_block.specs.Scene.{IsGoodScene, line_at};
 ghost use Rattle.cell_block.specs.Tasks.{IsTask};
 
 use crate::members::{Summed, kick_members, make_ghosts, place_members};
-use cell_block::{Block, Scene};
+use cell_block::{BlockRows, Extent, Scene};
 
-/// Takes each member of a leaf to its place at the tick. The block is that of the task's leaf.
-pub fn drift(scene: &Scene, task: u32, block: &mut Block)
+/// Takes each member of a leaf to its place at the tick, and the box of the block with them. The block is that of
+/// the task's leaf.
+pub fn drift(scene: &Scene, task: u32, block: &mut BlockRows)
     requires scene { IsGoodScene scene.now }
     requires task { IsTask scene.now Drift task }
     requires block { IsReady scene.now task (line_at scene.now task).first.0 block.old }
     ensures { IsAdded scene.now task (line_at scene.now task).first.0 block.old block.new }
 {
     place_members(scene, block.members.as_slice(), block.spots.as_mut_slice());
+    block.extent = Extent::of(block.spots.as_slice());
     block.mark(task);
 }
 
 /// Makes the ghost of each due member of a leaf from its density, which is whole by then. The block is that
 /// of the task's leaf.
-pub fn ghost_(scene: &Scene, task: u32, block: &mut Block)
+pub fn ghost_(scene: &Scene, task: u32, block: &mut BlockRows)
     requires scene { IsGoodScene scene.now }
     requires task { IsTask scene.now Ghost task }
     requires block { IsReady scene.now task (line_at scene.now task).first.0 block.old }
@@ -37,7 +39,7 @@ pub fn ghost_(scene: &Scene, task: u32, block: &mut Block)
 
 /// Kicks each due member of a leaf by the force on it, which is whole by then. The block is that of the
 /// task's leaf.
-pub fn kick(scene: &Scene, task: u32, block: &mut Block)
+pub fn kick(scene: &Scene, task: u32, block: &mut BlockRows)
     requires scene { IsGoodScene scene.now }
     requires task { IsTask scene.now Kick task }
     requires block { IsReady scene.now task (line_at scene.now task).first.0 block.old }

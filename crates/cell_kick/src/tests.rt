@@ -1,6 +1,5 @@
 //! Whole steps of small scenes, each task on the blocks that the tasks before it left.
 ghost use Rattle.std.specs.Prelude.{◌≡◌, ◌+◌, ◌<◌, [], ◌∷◌, length, IfOk};
-ghost use Rattle.cell_block.specs.Blocks.{Agrees, done_of};
 ghost use Rattle.cell_block.specs.Reading.{IsWhole};
 ghost use Rattle.cell_block.specs.Scene.{IsGoodScene, leaf_line, line_at};
 ghost use Rattle.cell_kick.specs.inner.FirstTasks.{HasFirst};
@@ -10,7 +9,7 @@ ghost use Rattle.cell_kick.specs.inner.Face.{across_face, six_lines};
 mod beginning;
 
 use crate::{drift, ghost_, kick};
-use cell_block::{Block, BoxedBlock, Flat, Scene, TaskLine};
+use cell_block::{Block, Flat, Scene, TaskLine};
 use cell_kern::{density_pair, density_self, force_pair, force_self};
 use sph_num::{Bounds, Kind, Params, Particle, ParticleList, Tables};
 use std::alloc::{AllocError, Global};
@@ -175,18 +174,8 @@ fn two_bins(alloc: Global, drift: bool) -> Result<Scene, AllocError>
     scene_of(alloc, 1, PARAMS, BOUNDS, [LIGHT, HEAVY], drift)
 }
 
-/// The block of a leaf before any task is done on it.
-fn begun(alloc: Global, scene: &Scene, leaf: u32) -> Result<BoxedBlock, AllocError>
-    requires scene { IsGoodScene scene.now }
-    requires leaf { leaf < length scene.now.leaves }
-    ensures { IfOk result (λ block. Agrees scene.now leaf block × (done_of block ≡ [])) }
-{
-    let block = Block::make(alloc, scene, leaf)?;
-    BoxedBlock::new(alloc, block)
-}
-
 /// Does a task on the first leaf alone.
-fn do_task(scene: &Scene, tables: &Tables, kind: Kind, task: u32, block: &mut BoxedBlock)
+fn do_task(scene: &Scene, tables: &Tables, kind: Kind, task: u32, block: &mut Block)
     requires good { IsGoodScene scene.now }
     requires number { task < length scene.now.tasks }
     requires line { line_at scene.now task ≡ leaf_line kind 0 }
@@ -203,13 +192,13 @@ fn do_task(scene: &Scene, tables: &Tables, kind: Kind, task: u32, block: &mut Bo
 }
 
 /// The block of the scene's one leaf, with all tasks done.
-fn finished(alloc: Global, scene: &Scene, tables: &Tables) -> Result<BoxedBlock, AllocError>
+fn finished(alloc: Global, scene: &Scene, tables: &Tables) -> Result<Block, AllocError>
     requires good { IsGoodScene scene.now }
     requires leaves { length scene.now.leaves ≡ 1 }
     requires tasks { scene.now.tasks ≡ one_leaf_lines scene.now.drift }
     ensures { IfOk result IsWhole }
 {
-    let mut block = begun(alloc, scene, 0)?;
+    let mut block = Block::make(alloc, scene, 0)?;
     for (task, line) in scene.tasks.as_slice().iter().enumerate() {
         do_task(scene, tables, line.kind, task as u32, &mut block);
     }
@@ -336,7 +325,7 @@ fn across_face(alloc: Global) -> Result<Scene, AllocError>
 }
 
 /// Does a task on the first of the two leaves alone.
-fn do_first(scene: &Scene, tables: &Tables, kind: Kind, task: u32, block: &mut BoxedBlock)
+fn do_first(scene: &Scene, tables: &Tables, kind: Kind, task: u32, block: &mut Block)
     requires scene { scene.now ≡ across_face }
     requires number { task < 6 }
     requires line { line_at across_face task ≡ leaf_line kind 0 }
@@ -347,7 +336,7 @@ fn do_first(scene: &Scene, tables: &Tables, kind: Kind, task: u32, block: &mut B
 }
 
 /// Does the tasks on a block of each leaf.
-fn do_across(scene: &Scene, tables: &Tables, first: &mut BoxedBlock, second: &mut BoxedBlock)
+fn do_across(scene: &Scene, tables: &Tables, first: &mut Block, second: &mut Block)
     requires scene { scene.now ≡ across_face }
     requires first { HasFirst scene.now 0 0 first.old }
     requires second { HasFirst scene.now 0 1 second.old }
@@ -375,13 +364,13 @@ fn do_across(scene: &Scene, tables: &Tables, first: &mut BoxedBlock, second: &mu
 }
 
 /// The blocks of the two leaves, with all tasks done.
-fn finished_across(alloc: Global, tables: &Tables) -> Result<(BoxedBlock, BoxedBlock), AllocError>
+fn finished_across(alloc: Global, tables: &Tables) -> Result<(Block, Block), AllocError>
     ensures first { IfOk result (λ pair. IsWhole pair.0) }
     ensures second { IfOk result (λ pair. IsWhole pair.1) }
 {
     let scene = across_face(alloc)?;
-    let mut first = begun(alloc, &scene, 0)?;
-    let mut second = begun(alloc, &scene, 1)?;
+    let mut first = Block::make(alloc, &scene, 0)?;
+    let mut second = Block::make(alloc, &scene, 1)?;
     do_across(&scene, tables, &mut first, &mut second);
     Ok((first, second))
 }

@@ -1,5 +1,5 @@
 //! The four kinds of step on a shared word.
-ghost use Rattle.std.specs.Prelude.{◌≡◌, ◌+◌, ◌<◌, [], ◌∷◌, None, Some};
+ghost use Rattle.std.specs.Prelude.{◌≡◌, ◌+◌, ◌<◌, [], ◌∷◌, Some};
 ghost use Rattle.qs_heap.specs.Heap.{Heap};
 ghost use Rattle.qs_queues.specs.Rule.{IsRightHeap};
 ghost use Rattle.qs_queues.specs.declared.view.Held.{Held};

@@ -18,7 +18,7 @@ struct Tries {
 }
 
 impl Trial for Tries {
-    ghost use Rattle.std.specs.Prelude.{ℕ, Bool, ◌≡◌, false};
+    ghost use Rattle.std.specs.Prelude.{Bool, ◌≡◌, false};
 
     ghost taken = { λ trial. trial.taken };
 

@@ -1,4 +1,5 @@
 pub mod Cut
-pub mod LeafRanges
+pub mod FreeShape
+pub mod TaskCut
 pub mod Progress
 pub mod Turns

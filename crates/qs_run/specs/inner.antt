@@ -1,2 +1,3 @@
 -- Definitions between private functions: no public clause cites them.
 pub mod Steps
+pub mod Free

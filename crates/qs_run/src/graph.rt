@@ -1,5 +1,5 @@
 //! Runs of whole graphs.
-ghost use Rattle.std.specs.Prelude.{◌≡◌, ◌≤◌, ◌<◌, All, IfErr, IfOk, length};
+ghost use Rattle.std.specs.Prelude.{◌≡◌, ◌≤◌, ◌<◌, All, IfErr, IfOk, length, min};
 ghost use Rattle.qs_core.specs.Blocks.{AreFitting, AreFresh};
 ghost use Rattle.qs_table.specs.Seats.{IsNewSeat};
 ghost use Rattle.qs_worker.specs.Crews.{IsOn};
@@ -14,8 +14,8 @@ use sph_edge::Gate;
 use std::alloc::Global;
 use std::thread::Threads;
 
-/// A further worker is started for so many tasks: for fewer, starting a thread takes longer than doing them.
-const TASKS_A_WORKER: u32 = 32;
+/// The room of a queue where there are more tasks than this.
+const MOST_ROOM: u32 = 65_536;
 
 /// The blocks of a run that was refused for want of memory, one per leaf in leaf order.
 #[derive(Drop)]
@@ -23,31 +23,11 @@ pub struct RunRefused<B> {
     pub blocks: Vec<B>,
 }
 
-/// Does every task of a work on the blocks of its leaves, and passes the gate with each. The workers look through as many
-/// queues for tasks, in as many threads, the calling one among them, where these can be made; what they leave is done on the
-/// calling thread, which passes the gate with the number that follows theirs. Where there are few tasks, fewer workers are
-/// made. A run is refused before any worker starts.
+/// Does every task of a work on the blocks of its leaves, and passes the gate with each before it is done. The workers look
+/// through as many queues for tasks, in as many threads, the calling one among them, where these can be made. What they leave
+/// is done on the calling thread, which passes the gate with the number `workers`, the one behind theirs. A run is refused
+/// before any worker starts.
 pub fn run_graph<R: Threads + Sync, W: Work + Sync, G: Gate>(
-    rt: &R,
-    alloc: Global,
-    work: &W,
-    blocks: Vec<W::Block>,
-    workers: u32,
-    gate: &G,
-) -> Result<Vec<W::Block>, RunRefused<W::Block>>
-where
-    W::Block: Send,
-    requires workers { (1 ≤ workers) × (workers ≤ 64) }
-    requires blocks { AreFresh (W.shape (W.plan work.now)) (W.fits (W.plan work.now)) W.done blocks.items }
-    ensures all_done { IfOk result (λ v. AreAllDone (W.shape (W.plan work.now)) (W.fits (W.plan work.now)) W.done v.items) }
-    ensures handed_back { IfErr result (λ r. AreFitting (W.shape (W.plan work.now)) (W.fits (W.plan work.now)) r.blocks.items) }
-{
-    let some = workers.min(1 + work.tasks() / TASKS_A_WORKER);
-    run_by(rt, alloc, work, blocks, some, gate)
-}
-
-/// As `run_graph`, by just so many workers.
-pub(crate) fn run_by<R: Threads + Sync, W: Work + Sync, G: Gate>(
     rt: &R,
     alloc: Global,
     work: &W,
@@ -78,7 +58,7 @@ where
     Ok(finish_rest(work, closed, workers, gate))
 }
 
-/// A worker on each of the seats of a table, and a queue for each, with room for all tasks.
+/// A worker on each of the seats of a table, and a queue for each worker, with room for all tasks or for 65,536 of them.
 fn man<W: Work>(
     alloc: Global,
     work: &W,
@@ -91,11 +71,13 @@ fn man<W: Work>(
     ensures on { IfOk result (λ r. All (λ w. IsOn table.now r.0 w) r.1) }
     ensures as_many { IfOk result (λ r. length r.1 ≡ length seats.items) }
     ensures tasks { IfOk result (λ r. r.0.tasks ≡ length (W.shape table.now.plan).tasks) }
+    ensures room { IfOk result (λ r. r.0.room ≡ min (length (W.shape table.now.plan).tasks) 65536) }
     ensures no_crew { IfErr result (λ r. r.seats.items ≡ seats.items) }
 {
     let tasks = work.tasks();
     let count = seats.len() as u32;
-    let Ok((queues, queue_seats)) = Queues::new(alloc, count, tasks as usize, tasks, count) else {
+    let room = tasks.min(MOST_ROOM) as usize;
+    let Ok((queues, queue_seats)) = Queues::new(alloc, count, room, tasks, count) else {
         return Err(NoCrew { seats });
     };
     let crew = Crew::make(alloc, work, seats, queue_seats)?;

@@ -60,7 +60,7 @@ module _ {B : Type 0} (shape : Shape) (fits : ℕ → B → Type 0) (done : B �
 
       fetched_one : HasFetched shape fits done from before after (blocks ++ block ∷ [])
       fetched_one = record {
-        cells = kept_twice before v after has.cells (record { place = refl; chains = refl; notes = quiet_one v.notes (noted shape v (Fetch leaf) 0) refl });
+        cells = kept_twice before v after has.cells (record { place = refl; chains = refl; notes = quiet_one v.notes (noted shape v (Fetch leaf) 0) refl refl });
         running = has.running;
         each = λ k d l. elim (cases_lt k (length blocks)) [
           | inl m ↦ subst (IsOutReady shape fits done after (from + k)) (sym (get_or_append_left blocks (block ∷ []) d k m)) (earlier (from + k) (get_or blocks k d) (has.each k d m))

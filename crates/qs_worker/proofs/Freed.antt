@@ -41,10 +41,10 @@ without_seen : (c : Bool) → 0 ≡ cond {A = ℕ} (c && false) 1 0
 without_seen true = refl
 without_seen false = refl
 
-plus_none : (n : ℕ) → n ≡ 0 + n
+pub plus_none : (n : ℕ) → n ≡ 0 + n
 plus_none n = omega arith
 
-one_released : (task cell : ℕ) (b : Bool) (rest : List ℕ) → count_by (λ t. t == task) (cons_option (cond b (Some cell) None) rest) ≡ cond ((cell == task) && b) 1 0 + count_by (λ t. t == task) rest
+pub one_released : (task cell : ℕ) (b : Bool) (rest : List ℕ) → count_by (λ t. t == task) (cons_option (cond b (Some cell) None) rest) ≡ cond ((cell == task) && b) 1 0 + count_by (λ t. t == task) rest
 one_released task cell true rest = sum_by-cons (λ (t : ℕ). cond {A = ℕ} (t == task) 1 0) cell rest ∙ ap (λ (n : ℕ). n + count_by (λ t. t == task) rest) (with_seen (cell == task))
 one_released task cell false rest = plus_none (count_by (λ t. t == task) rest) ∙ ap (λ (n : ℕ). n + count_by (λ t. t == task) rest) (without_seen (cell == task))
 

@@ -13,6 +13,7 @@ pub mod Offered
 pub mod Emptied
 pub mod Looked
 pub mod Freed
+pub mod Claiming
 pub mod Turning
 pub mod Stopping
 pub mod Equipped

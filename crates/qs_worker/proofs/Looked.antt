@@ -10,14 +10,14 @@ use Rattle.qs_queues.specs.declared.view.QueueNote.{QueueNote}
 use Rattle.qs_queues.specs.declared.view.QueueView.{QueueView}
 use Rattle.qs_queues.specs.Calls.{Noted, SaysScan, WasGot}
 use Rattle.qs_queues.specs.Views.{with_notes}
-use Rattle.qs_worker.specs.Looks.{AreLooked, Found, FoundNone, FoundOne, Scanned, TookNone, notes_of}
+use Rattle.qs_worker.specs.Looks.{AreLooked, Found, FoundNone, FoundOne, Scanned, TookNone, notes_of_scans}
 use Rattle.qs_worker.specs.Offers.{queue_at}
 use Rattle.qs_worker.proofs.Longer.{more_notes, no_notes, snoc_cases}
 
 -- the first so many queues gave nothing
 pub record Misses (refused : ℕ → Type 0) (queues own k : ℕ) (before now : QueueView) : Type 0 where
   pub scans : List Scanned
-  pub view : now ≡ with_notes before (notes_of scans)
+  pub view : now ≡ with_notes before (notes_of_scans scans)
   pub count : length scans ≡ k
   pub looked : AreLooked refused queues own scans
 
@@ -75,8 +75,8 @@ module _ (queues own : ℕ) where
     looked = record { each = All-nil (λ (s : Scanned). TookNone refused s.queue s.answer s.notes); in_order = λ k p e. absurd (none-some p e) };
   }
 
-  one_note : (scans : List Scanned) (s : Scanned) → notes_of (scans ++ s ∷ []) ≡ notes_of scans ++ s.notes
-  one_note scans s = flat_map-append (λ (t : Scanned). t.notes) scans (s ∷ []) ∙ ap (λ (ns : List QueueNote). notes_of scans ++ ns) (append-nil s.notes)
+  one_note : (scans : List Scanned) (s : Scanned) → notes_of_scans (scans ++ s ∷ []) ≡ notes_of_scans scans ++ s.notes
+  one_note scans s = flat_map-append (λ (t : Scanned). t.notes) scans (s ∷ []) ∙ ap (λ (ns : List QueueNote). notes_of_scans scans ++ ns) (append-nil s.notes)
 
   -- the next queue gave nothing too
   pub one_miss : (old new : ℕ → Type 0) → ((t : ℕ) → old t → new t) → (k queue : ℕ) (answer : Scan) (v w u : QueueView) → Misses old queues own k v w → queue ≡ queue_at own queues k
@@ -86,7 +86,7 @@ module _ (queues own : ℕ) where
       let l = looked_still old new kept queues own m.scans m.looked in
       record {
         scans = m.scans ++ s ∷ [];
-        view = more_notes v w u (notes_of m.scans) n.further m.view n.is ∙ ap (with_notes v) (sym (one_note m.scans s));
+        view = more_notes v w u (notes_of_scans m.scans) n.further m.view n.is ∙ ap (with_notes v) (sym (one_note m.scans s));
         count = length_push m.scans s ∙ ap (λ (j : ℕ). j + 1) m.count;
         looked = record {
           each = All-push (λ (x : Scanned). TookNone new x.queue x.answer x.notes) m.scans s l.each n.said;
@@ -101,8 +101,8 @@ module _ (queues own : ℕ) where
   pub got : (old new : ℕ → Type 0) (taken : Option ℕ) → ((t : ℕ) → old t → new t) → (k queue task : ℕ) (v w u : QueueView) → Misses old queues own k v w → k < queues → queue ≡ queue_at own queues k
       → Noted (SaysScan new taken queue (Got task)) w u → Noted (Found new queues own (Some task)) v u
   got old new taken kept k queue task v w u m few place n = record {
-    further = notes_of m.scans ++ n.further;
-    is = more_notes v w u (notes_of m.scans) n.further m.view n.is;
+    further = notes_of_scans m.scans ++ n.further;
+    is = more_notes v w u (notes_of_scans m.scans) n.further m.view n.is;
     said = record {
       scans = m.scans;
       last = n.further;
@@ -115,7 +115,7 @@ module _ (queues own : ℕ) where
 
   -- no queue gave one
   pub none_found : (refused : ℕ → Type 0) (k : ℕ) (v w : QueueView) → Misses refused queues own k v w → k ≡ queues → Noted (Found refused queues own None) v w
-  none_found refused k v w m all = record { further = notes_of m.scans; is = m.view; said = record { scans = m.scans; notes_are = refl; every = m.count ∙ all; looked = m.looked } }
+  none_found refused k v w m all = record { further = notes_of_scans m.scans; is = m.view; said = record { scans = m.scans; notes_are = refl; every = m.count ∙ all; looked = m.looked } }
 
 -- a scan that isn't Got took nothing
 pub not_got : (new : ℕ → Type 0) (taken : Option ℕ) (queue : ℕ) (answer : Scan) (w u : QueueView) → (is_got answer → ⊥) → Noted (SaysScan new taken queue answer) w u → (taken ≡ None) × Noted (TookNone new queue answer) w u

@@ -11,14 +11,14 @@ use Rattle.qs_queues.specs.declared.view.QueueNote.{QueueNote}
 use Rattle.qs_queues.specs.declared.view.QueueView.{QueueView}
 use Rattle.qs_queues.specs.Calls.{Noted, SaysPush}
 use Rattle.qs_queues.specs.Views.{with_notes}
-use Rattle.qs_worker.specs.Offers.{IsOffered, IsTurnedAway, Pushed, is_in, notes_of, queue_at}
+use Rattle.qs_worker.specs.Offers.{IsOffered, IsTurnedAway, Pushed, is_in, notes_of_pushes, queue_at}
 use Rattle.qs_worker.specs.inner.Pushing.{Offered}
 use Rattle.qs_worker.proofs.Longer.{more_notes, no_notes, snoc_cases}
 
 -- the first so many queues turned the entry away
 pub record Refusals (room queues own : ℕ) (entry : Entry) (k : ℕ) (before now : QueueView) : Type 0 where
   pub pushes : List Pushed
-  pub view : now ≡ with_notes before (notes_of pushes)
+  pub view : now ≡ with_notes before (notes_of_pushes pushes)
   pub count : length pushes ≡ k
   pub offered : IsOffered room queues own entry pushes
   pub refusals : All IsTurnedAway pushes
@@ -36,8 +36,8 @@ module _ (room queues own : ℕ) (entry : Entry) where
     refusals = All-nil IsTurnedAway;
   }
 
-  one_note : (pushes : List Pushed) (p : Pushed) → notes_of (pushes ++ p ∷ []) ≡ notes_of pushes ++ p.notes
-  one_note pushes p = flat_map-append (λ (q : Pushed). q.notes) pushes (p ∷ []) ∙ ap (λ (ns : List QueueNote). notes_of pushes ++ ns) (append-nil p.notes)
+  one_note : (pushes : List Pushed) (p : Pushed) → notes_of_pushes (pushes ++ p ∷ []) ≡ notes_of_pushes pushes ++ p.notes
+  one_note pushes p = flat_map-append (λ (q : Pushed). q.notes) pushes (p ∷ []) ∙ ap (λ (ns : List QueueNote). notes_of_pushes pushes ++ ns) (append-nil p.notes)
 
   abbrev made : ℕ → Push → List QueueNote → Pushed
   made queue answer notes = record { queue = queue; entry = entry; answer = answer; notes = notes }
@@ -59,7 +59,7 @@ module _ (room queues own : ℕ) (entry : Entry) where
       let p : Pushed = made queue answer n.further in
       record {
         pushes = r.pushes ++ p ∷ [];
-        view = more_notes v w u (notes_of r.pushes) n.further r.view n.is ∙ ap (with_notes v) (sym (one_note r.pushes p));
+        view = more_notes v w u (notes_of_pushes r.pushes) n.further r.view n.is ∙ ap (with_notes v) (sym (one_note r.pushes p));
         count = length_push r.pushes p ∙ ap (λ (j : ℕ). j + 1) r.count;
         offered = more_offered k queue answer n.further r.pushes r.count place n.said r.offered;
         refusals = All-push IsTurnedAway r.pushes p r.refusals refused;
@@ -70,7 +70,7 @@ module _ (room queues own : ℕ) (entry : Entry) where
   took k queue v w u r place n =
       let p : Pushed = made queue In n.further in (
         r.pushes ++ p ∷ [],
-        more_notes v w u (notes_of r.pushes) n.further r.view n.is ∙ ap (with_notes v) (sym (one_note r.pushes p)),
+        more_notes v w u (notes_of_pushes r.pushes) n.further r.view n.is ∙ ap (with_notes v) (sym (one_note r.pushes p)),
         record { offered = more_offered k queue In n.further r.pushes r.count place n.said r.offered; before = r.pushes; last = p; is = refl; refusals = r.refusals; took = refl },
       )
 

@@ -108,7 +108,7 @@ module _ {B : Type 0} (shape : Shape) (fits : ℕ → B → Type 0) (done : B �
   -- so many are home
   pub one_put : (to : ℕ) (before w : SeatView) → from + length blocks < to → HasPut (from + length all) to before v → w ≡ knows_returned shape v leaf → HasPut (from + length blocks) to before w
   one_put to before w high has is = subst (HasPut (from + length blocks) to before) (sym is) (record {
-    cells = kept_twice before v (knows_returned shape v leaf) has.cells (record { place = refl; chains = refl; notes = quiet_one v.notes (noted shape v (Return leaf) 1) refl });
+    cells = kept_twice before v (knows_returned shape v leaf) has.cells (record { place = refl; chains = refl; notes = quiet_one v.notes (noted shape v (Return leaf) 1) refl refl });
     home = λ other c.
         let kept = Contains-without leaf v.holds.out other c in
         let was = has.home other kept.0 in

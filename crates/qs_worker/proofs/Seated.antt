@@ -1,5 +1,5 @@
 -- New seats of a table: workers may be made on them, and the table may be closed with the seats that workers give back.
-use Rattle.std.proofs.Common.{◌≡◌, ◌≤◌, List, [], ◌∷◌, ◌++◌, All, Some, length, get_or, refl, sym, ap, ◌∙◌, subst, arith}
+use Rattle.std.proofs.Common.{◌≡◌, ◌<◌, ◌≤◌, ℕ, List, [], ◌∷◌, ◌++◌, All, Some, length, get_or, refl, sym, ap, ◌∙◌, subst, arith}
 use Rattle.std.proofs.lemmas.List.Elements.{All-cons, All-nil}
 use Rattle.qs_core.specs.Core.{empty_view}
 use Rattle.qs_table.specs.declared.view.SeatView.{SeatView}
@@ -35,7 +35,12 @@ module _ {P : Type 0} (table : TableView P) where
   back_are_idle queues workers seats on are rest =
       let of = subst (All (λ s. IsSeatOf table s)) (sym are) (lock_seats_are_on table queues workers on) in λ k d l. idle_at_rest (get_or seats k d) (of k d l) (rest k d l)
 
-  -- a worker that was made with the number 0 and got a task
+  -- a worker that was made with the number of a queue
+  pub made_is_on : (queues : QueuesView) (number : ℕ) (seat : TokenView P) (queue_seat : queue.TokenView) (made : WorkerView P) → IsNewSeat table seat → queue.IsSeatOf queues queue_seat → number < queues.queues
+      → made ≡ record { number = number; lock_seat = seat; queue_seat = queue_seat; ready = [] } → IsOn table queues made
+  made_is_on queues number seat queue_seat made new of low is = subst (IsOn table queues) (sym is) (record { lock_seat = new.of_table; queue_seat = of; number = low })
+
+  -- one that was made with the number 0 and got a task
   pub one_is_on : (queues : QueuesView) (seat : TokenView P) (queue_seat : queue.TokenView) (made worker : WorkerView P) → IsNewSeat table seat → queue.IsSeatOf queues queue_seat → 1 ≤ queues.queues
       → made ≡ record { number = 0; lock_seat = seat; queue_seat = queue_seat; ready = [] } → worker ≡ record made { ready = made.ready ++ 0 ∷ [] } → IsOn table queues worker
   one_is_on queues seat queue_seat made worker new of some is more =

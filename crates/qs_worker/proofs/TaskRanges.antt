@@ -1,14 +1,25 @@
 -- The leaves of a task's cells, as ranges that are apart.
-use Rattle.std.proofs.Common.{◌≡◌, ℕ, ◌+◌, ◌-◌, ◌<◌, ◌≤◌, length, Contains, Option, Some, None, sym, ap, inl, inr, ◌∙◌, subst, arith}
+use Rattle.std.proofs.Common.{◌≡◌, ℕ, ◌+◌, ◌-◌, ◌<◌, ◌≤◌, ◌⊎◌, length, Contains, Option, Some, None, sym, ap, inl, inr, ◌∙◌, subst, arith}
 use Rattle.std.specs.List.{range_with_len}
-use Rattle.std.proofs.lemmas.Bool.{cases_eq}
+use Rattle.std.proofs.lemmas.Bool.{cases_eq, cases_lt}
 use Rattle.std.proofs.lemmas.List.FromFn.{length-range_with_len}
 use Rattle.lists.proofs.Elements.{Contains-append}
 use Rattle.qs_core.specs.Shape.{Shape, IsShape, Touches, leaves_of, leaves_of_other, range_of, task_at}
 use Rattle.qs_core.specs.Blocks.{first_leaves, second_leaves}
 use Rattle.qs_core.proofs.Below.{in_range}
 use Rattle.qs_worker.specs.inner.Rooms.{HasRoomBelow}
-use Rattle.qs_worker.specs.inner.Ranges.{AreLeafRanges}
+use Rattle.qs_worker.specs.Ranges.{AreLeafRanges}
+
+-- two ranges with no number in common
+apart_ranges : (from to from' to' : ℕ) → from < to → from' < to' → ((leaf : ℕ) → from ≤ leaf → leaf < to → from' ≤ leaf → leaf < to' → ⊥) → (to ≤ from') ⊎ (to' ≤ from)
+apart_ranges from to from' to' some some' none =
+    elim (cases_lt from' to) [
+      | inr h ↦ inl h
+      | inl h ↦ elim (cases_lt from to') [
+        | inr m ↦ inr m
+        | inl m ↦ elim (cases_lt from from') [ inl b ↦ absurd (none from' (omega arith) h (omega arith) some') | inr b ↦ absurd (none from (omega arith) some b m) ]
+      ]
+    ]
 
 -- the cells of a task
 second_of : (shape : Shape) (task : ℕ) (cells : ℕ × Option ℕ) (second : Option ℕ) → cells ≡ ((task_at shape task).first, (task_at shape task).second) → cells.1 ≡ second → (task_at shape task).second ≡ second
@@ -43,7 +54,8 @@ module _ (shape : Shape) (task : ℕ) (cells : ℕ × Option ℕ) (from to : ℕ
         rises' = omega arith;
         within = omega arith;
         within' = omega arith;
-        apart = λ leaf a b a' b'. laws.own_leaves (task_at shape task).first cell leaf here.first other.0 other.1 (record { from = omega arith; to = omega arith }) (record { from = omega arith; to = omega arith });
+        apart = apart_ranges from to from' to' (omega arith) (omega arith)
+            (λ leaf a b a' b'. laws.own_leaves (task_at shape task).first cell leaf here.first other.0 other.1 (record { from = omega arith; to = omega arith }) (record { from = omega arith; to = omega arith }));
         leaves = ap (λ (p : ℕ × ℕ). range_with_len p.0 (p.1 - p.0)) (sym own);
         leaves' = ap (leaves_of_other shape) s ∙ ap (λ (p : ℕ × ℕ). range_with_len p.0 (p.1 - p.0)) (sym range');
       }
@@ -62,13 +74,16 @@ module _ (shape : Shape) (task : ℕ) (cells : ℕ × Option ℕ) (from to : ℕ
         rises' = omega arith;
         within = omega arith;
         within' = omega arith;
-        apart = λ leaf a b a' b'. omega arith;
+        apart = inl (omega arith);
         leaves = ap (λ (p : ℕ × ℕ). range_with_len p.0 (p.1 - p.0)) (sym own);
         leaves' = ap (leaves_of_other shape) (second_of shape task cells None are none) ∙ sym (ap (range_with_len to) nothing);
       }
 
--- a task touches the leaves of its ranges
+-- no leaf is in both ranges, and a task touches those of either
 module _ (shape : Shape) (task from to from' to' : ℕ) (are : AreLeafRanges shape task from to from' to') where
+  pub in_one : (leaf : ℕ) → from ≤ leaf → leaf < to → from' ≤ leaf → leaf < to' → ⊥
+  in_one leaf l m l' m' = elim are.apart [ inl h ↦ omega arith | inr h ↦ omega arith ]
+
   pub touches_first : (leaf : ℕ) → from ≤ leaf → leaf < to → Touches shape task leaf
   unfolding leaves_of
   touches_first leaf l m = (Contains-append (first_leaves shape task) (second_leaves shape task) leaf).1 (inl (subst (λ xs. Contains xs leaf) (sym are.leaves) ((in_range from to leaf).1 (l, m))))

@@ -20,9 +20,9 @@ use Rattle.qs_table.specs.Tries.{Stepped, TriedTask, cells_of_task, with_cells}
 use Rattle.qs_table.specs.Views.{knows_after, noted}
 use Rattle.qs_worker.specs.Refusals.{WasRefused}
 use Rattle.qs_worker.specs.inner.Claimed.{claimed_view, got_view}
-use Rattle.qs_worker.specs.inner.Leaves.{GrewQuietly}
+use Rattle.qs_worker.specs.inner.Leaves.{GrewClaiming, GrewQuietly}
 use Rattle.qs_worker.specs.inner.Trials.{HasTaken, IsTrying, WasTried, since}
-use Rattle.qs_worker.proofs.Quiet.{quiet_cells, quiet_twice}
+use Rattle.qs_worker.proofs.Quiet.{none_got, quiet_cells, quiet_then, quiet_twice}
 
 -- a seat that owns and runs nothing holds nothing, where no leaf is out
 pub empty_from_idle : (view : View) → IsIdle view → view.out ≡ [] → view ≡ empty_view
@@ -53,8 +53,11 @@ module _ (shape : Shape) (task : ℕ) where
   claims_it got = ap (λ (b : Bool). b && true) (eq-eqb task task refl)
 
   -- a claim frees no task
-  abbrev pub claim_quiet : (seen : ℕ) (got claimed : SeatView) → claimed ≡ knows_after shape got (Step.Claim task) seen → GrewQuietly got.notes claimed.notes
-  claim_quiet seen got claimed e = record { further = noted shape got (Step.Claim task) seen ∷ []; is = ap (λ (v : SeatView). v.notes) e; frees_none = refl }
+  claim_got : (got claimed : SeatView) → claimed ≡ knows_after shape got (Step.Claim task) 0 → GrewClaiming (task ∷ []) got.notes claimed.notes
+  claim_got got claimed e = record { further = noted shape got (Step.Claim task) 0 ∷ []; is = ap (λ (v : SeatView). v.notes) e; frees_none = refl; claims = refl }
+
+  abbrev claim_lost : (seen : ℕ) (got asked : SeatView) → 0 < seen → asked ≡ knows_after shape got (Step.Claim task) seen → GrewQuietly got.notes asked.notes
+  claim_lost seen got asked some e = record { further = noted shape got (Step.Claim task) seen ∷ []; is = ap (λ (v : SeatView). v.notes) e; frees_none = refl; claims = none_got task seen some }
 
 -- a claim that saw another word than 0
 pub record Lost (shape : Shape) (task : ℕ) (got asked : SeatView) : Type 0 where
@@ -103,11 +106,11 @@ since_is start now further e = ap (drop (length start)) e ∙ dropped start furt
 pub refused_more : (shape : Shape) (xs ys : List Note) (task : ℕ) → WasRefused shape xs task → WasRefused shape (xs ++ ys) task
 refused_more shape xs ys task r = record { note = r.note; stands = Contains-append_left xs ys r.note r.stands; shows = r.shows }
 
-module _ (shape : Shape) (start now : List Note) (grown : GrewQuietly start now) where
-  pub still_refused : (new : List Note) → GrewQuietly now new → (task : ℕ) → WasRefused shape (since start now) task → WasRefused shape (since start new) task
+module _ (shape : Shape) (start now : List Note) {tasks : List ℕ} (grown : GrewClaiming tasks start now) where
+  pub still_refused : (new : List Note) {tasks' : List ℕ} → GrewClaiming tasks' now new → (task : ℕ) → WasRefused shape (since start now) task → WasRefused shape (since start new) task
   still_refused new more task r =
-      let all = quiet_twice start now new grown more in
-      subst (λ (ns : List Note). WasRefused shape ns task) (sym (since_is start new (grown.further ++ more.further) all.is))
+      let all : new ≡ start ++ (grown.further ++ more.further) = more.is ∙ ap (λ (ns : List Note). ns ++ more.further) grown.is ∙ append_assoc start grown.further more.further in
+      subst (λ (ns : List Note). WasRefused shape ns task) (sym (since_is start new (grown.further ++ more.further) all))
       (refused_more shape grown.further more.further task (subst (λ (ns : List Note). WasRefused shape ns task) (since_is start now grown.further grown.is) r))
 
 -- a claim of the task that is the seat's only one wasn't made before
@@ -124,7 +127,7 @@ module _ (shape : Shape) (start now : SeatView) (taken : Option ℕ) (t : IsTryi
   pub tries_on : (new : SeatView) → taken ≡ None → new.place ≡ now.place → GrewQuietly now.notes new.notes → new.holds ≡ empty_view → IsTrying shape start new taken
   tries_on new none place more empty = record {
     place = place ∙ t.place;
-    grown = quiet_twice start.notes now.notes new.notes t.grown more;
+    grown = quiet_then start.notes now.notes new.notes t.grown more;
     none = λ e. empty;
     some = λ task e. absurd (none-some task (sym none ∙ e));
   }
@@ -134,15 +137,14 @@ module _ (shape : Shape) (start now : SeatView) (taken : Option ℕ) (t : IsTryi
   refuses task new none w = (
     tries_on new none w.place w.grown w.outcome.0,
     (let r = w.outcome.1 in
-        subst (λ (ns : List Note). WasRefused shape ns task) (sym (since_is start.notes new.notes (t.grown.further ++ w.grown.further) (quiet_twice start.notes now.notes new.notes t.grown w.grown).is))
+        subst (λ (ns : List Note). WasRefused shape ns task) (sym (since_is start.notes new.notes (t.grown.further ++ w.grown.further) (w.grown.is ∙ ap (λ (ns : List Note). ns ++ w.grown.further) t.grown.is ∙ append_assoc start.notes t.grown.further w.grown.further)))
         (record { note = r.note; stands = Contains-append_right t.grown.further w.grown.further r.note r.stands; shows = r.shows })),
   )
 
   -- the task was taken
-  pub takes : (task : ℕ) (new : SeatView) → WasTried shape task now true new → IsTrying shape start new (Some task)
-  takes task new w =
+  pub takes : (task : ℕ) (new : SeatView) → taken ≡ None → WasTried shape task now true new → IsTrying shape start new (Some task)
+  takes task new nothing w =
       let h = w.outcome in
-      let last = h.front ++ h.claim ∷ [] in
       let old = ap (sum_by (λ (n : Note). cond {A = ℕ} (is_claim task n) 1 0)) t.grown.is in
       let parts = sum_by-append (λ (n : Note). cond {A = ℕ} (is_claim task n) 1 0) start.notes t.grown.further in
       let none = h.new in
@@ -150,17 +152,10 @@ module _ (shape : Shape) (start now : SeatView) (taken : Option ℕ) (t : IsTryi
         is_task = h.is_task;
         holds = h.holds;
         new = omega arith;
-        front = t.grown.further ++ h.front;
-        claim = h.claim;
-        is = h.is
-            ∙ ap (λ (ns : List Note). ns ++ last) t.grown.is
-            ∙ append_assoc start.notes t.grown.further last
-            ∙ ap (λ (ns : List Note). start.notes ++ ns) (sym (append_assoc t.grown.further h.front (h.claim ∷ [])));
-        claims = h.claims;
       } in
       record {
         place = w.place ∙ t.place;
-        grown = quiet_twice start.notes now.notes new.notes t.grown w.grown;
+        grown = quiet_twice start.notes now.notes new.notes (subst (λ (o : Option ℕ). GrewClaiming (option_to_list o) start.notes now.notes) nothing t.grown) w.grown;
         none = λ z. absurd (none-some task (sym z));
         some = λ other z. subst (λ (k : ℕ). HasTaken shape k start new) (same_Some task other z) took;
       }
@@ -185,15 +180,11 @@ module _ (shape : Shape) (task : ℕ) (before : SeatView) (none : before.holds �
         ap (λ (v : SeatView). v.notes) e ∙ ap (λ (ns : List Note). ns ++ note ∷ []) front.is ∙ append_assoc before.notes front.further (note ∷ []) in
         record {
           place = ap (λ (v : SeatView). v.place) e ∙ steps.place;
-          grown = quiet_twice before.notes got.notes claimed.notes front (claim_quiet shape task 0 got claimed e);
+          grown = quiet_twice before.notes got.notes claimed.notes front (claim_got shape task got claimed e);
           outcome = record {
             is_task = l;
             holds = claimed_is shape task got (got_is shape task before got none steps) claimed e;
             new = new_claim task before.notes front.further claimed.notes note all (claims_it shape task got) (once task);
-            front = front.further;
-            claim = note;
-            is = all;
-            claims = claims_it shape task got;
           };
         }
 
@@ -203,7 +194,7 @@ module _ (shape : Shape) (task : ℕ) (before : SeatView) (none : before.holds �
         let note = noted shape got (Step.Claim task) lost.seen in
         record {
           place = place ∙ ap (λ (v : SeatView). v.place) lost.is ∙ steps.place;
-          grown = quiet_twice before.notes asked.notes given.notes (quiet_twice before.notes got.notes asked.notes front (claim_quiet shape task lost.seen got asked lost.is)) rest;
+          grown = quiet_twice before.notes asked.notes given.notes (quiet_twice before.notes got.notes asked.notes front (claim_lost shape task lost.seen got asked lost.more lost.is)) rest;
           outcome = (
             given_back shape task got asked lost (got_is shape task before got none steps) given gave,
             record {

@@ -1,6 +1,6 @@
 -- The parts of a turn make what a turn says.
-use Rattle.std.proofs.Common.{◌≡◌, ℕ, List, [], ◌∷◌, ◌++◌, Option, Some, None, refl, sym, ap, ◌∙◌, subst, append_assoc, append-nil, arith}
-use Rattle.std.proofs.lemmas.List.{append_cancel_left}
+use Rattle.std.proofs.Common.{◌≡◌, ◌≢◌, ℕ, List, [], ◌∷◌, ◌++◌, Option, Some, None, refl, sym, ap, ◌∙◌, subst, append_assoc, append-nil, arith}
+use Rattle.std.specs.Option.{option_to_list}
 use Rattle.std.proofs.lemmas.List.Elements.{filter_map-append}
 use Rattle.qs_core.specs.declared.event.Note.{Note}
 use Rattle.qs_core.specs.Shape.{Shape}
@@ -23,6 +23,7 @@ use Rattle.qs_worker.specs.Turns.{Turned, WasDone, WorkerView, entry_in}
 use Rattle.qs_worker.specs.inner.Claimed.{HasDone}
 use Rattle.qs_worker.specs.inner.Trials.{HasLooked, IsTrial, TrialView, since}
 use Rattle.qs_worker.proofs.Looked.{found_still}
+use Rattle.qs_worker.proofs.Quiet.{claims-append, none_claimed_after}
 use Rattle.qs_worker.proofs.Trying.{refused_more, since_is}
 
 -- what a trial found is what a look left
@@ -89,8 +90,8 @@ module _ {P : Type 0} (shape : Shape) (queues : QueuesView) (number : ℕ) (seat
       less_looked = ap (λ (v : QueueView). v.subtractions) looked.queue_notes ∙ less_then
 
       -- no task could be claimed
-      pub is_idle : (seat'' : TokenView P) (token' : queue.TokenView) → seat''.view ≡ seat' → token'.view ≡ q3 → found ≡ None → Turned shape queues Idle before (record { number = number; lock_seat = seat''; queue_seat = token'; ready = kept })
-      is_idle seat'' token' is is' none =
+      pub is_idle : (seat'' : TokenView P) (token' : queue.TokenView) → seat''.view ≡ seat' → token'.view ≡ q3 → found ≡ None → left ≢ 0 → Turned shape queues Idle before (record { number = number; lock_seat = seat''; queue_seat = token'; ready = kept })
+      is_idle seat'' token' is is' none some_left =
           let t = looked.trying in record {
             number = refl;
             place = ap (λ (v : SeatView). v.place) is ∙ t.place;
@@ -106,32 +107,29 @@ module _ {P : Type 0} (shape : Shape) (queues : QueuesView) (number : ℕ) (seat
             kept = kept;
             pushed = pushed.said;
             ready = sym (append-nil kept) ∙ ap (λ (ts : List ℕ). kept ++ ts) (sym t.grown.frees_none);
-            ends = (subst (λ (o : Option ℕ). Found (WasRefused shape t.grown.further) queues.queues number o looked.notes) none looked.shown, refl);
+            ends = (some_left, subst (λ (o : Option ℕ). Found (WasRefused shape t.grown.further) queues.queues number o looked.notes) none looked.shown, t.grown.claims ∙ ap option_to_list none, refl);
           }
 
       -- a task was claimed and done
-      pub has_run : (task : ℕ) (seat'' : TokenView P) (token' : queue.TokenView) (ready' : List ℕ) → found ≡ Some task → HasDone shape task seat' seat''.view kept ready' → token'.view ≡ with_less q3
+      pub has_run : (task : ℕ) (seat'' : TokenView P) (token' : queue.TokenView) (ready' : List ℕ) → found ≡ Some task → HasDone shape task seat' seat''.view kept ready' → token'.view ≡ with_less q3 → left ≢ 0
           → Turned shape queues (Ran task) before (record { number = number; lock_seat = seat''; queue_seat = token'; ready = ready' })
-      has_run task seat'' token' ready' some done less =
+      has_run task seat'' token' ready' some done less some_left =
           let t = looked.trying in
           let f = t.grown.further in
           let rest = done.quiet.further ++ done.further in
           let locks : List Note = f ++ rest in
           let took = t.some task some in
           let more : (k : ℕ) → WasRefused shape f k → WasRefused shape locks k = (λ k r. refused_more shape f rest k r) in
-          let front : f ≡ took.front ++ took.claim ∷ [] = append_cancel_left seat.view.notes f (took.front ++ took.claim ∷ []) (sym t.grown.is ∙ took.is) in
           let free : freed_in locks ≡ freed_in done.further =
           filter_map-append (λ (note : Note). freed_of note.kind note.cell note.seen) f rest ∙ ap (λ (ts : List ℕ). ts ++ freed_in rest) t.grown.frees_none
           ∙ filter_map-append (λ (note : Note). freed_of note.kind note.cell note.seen) done.quiet.further done.further ∙ ap (λ (ts : List ℕ). ts ++ freed_in done.further) done.quiet.frees_none in
           let was : WasDone shape task seat.view.notes locks = record {
             is_task = took.is_task;
             new = took.new;
-            front = took.front;
-            claim = took.claim;
-            middle = done.quiet.further;
+            others = f ++ done.quiet.further;
             releases = done.further;
-            is = ap (λ (ns : List Note). ns ++ rest) front ∙ sym (append_assoc (took.front ++ took.claim ∷ []) done.quiet.further done.further);
-            claims = took.claims;
+            is = sym (append_assoc f done.quiet.further done.further);
+            claimed = claims-append f rest (t.grown.claims ∙ ap option_to_list some) (claims-append done.quiet.further done.further done.quiet.claims (none_claimed_after done.further done.releases.0));
             released = done.releases;
           } in
           record {
@@ -155,6 +153,7 @@ module _ {P : Type 0} (shape : Shape) (queues : QueuesView) (number : ℕ) (seat
             pushed = pushed.said;
             ready = done.freed ∙ ap (λ (ts : List ℕ). kept ++ ts) (sym free);
             ends = (
+              some_left,
               found_still (WasRefused shape f) (WasRefused shape locks) more queues.queues number task looked.notes (subst (λ (o : Option ℕ). Found (WasRefused shape f) queues.queues number o looked.notes) some looked.shown),
               was,
               refl,

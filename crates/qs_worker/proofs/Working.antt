@@ -15,11 +15,11 @@ use Rattle.qs_table.specs.Tries.{owned_chain, with_cells}
 use Rattle.qs_table.proofs.TaskTries.{owned_is_complete}
 use Rattle.qs_worker.specs.inner.Claimed.{claimed_view, over_view}
 use Rattle.qs_worker.specs.inner.Leaves.{CanPut, GrewQuietly, HasFetched, HasPut, IsOutReady, IsWorkedOn, KeptCells}
-use Rattle.qs_worker.specs.inner.Ranges.{AreLeafRanges}
+use Rattle.qs_worker.specs.Ranges.{AreLeafRanges}
 use Rattle.qs_worker.proofs.Fetching.{can_still}
 use Rattle.qs_worker.proofs.Putting.{runs_on}
 use Rattle.qs_worker.proofs.Quiet.{kept_twice}
-use Rattle.qs_worker.proofs.TaskRanges.{touches_first, touches_second}
+use Rattle.qs_worker.proofs.TaskRanges.{in_one, touches_first, touches_second}
 
 -- the cells of a claimed task are owned
 first_stands : (shape : Shape) (first : ℕ) (second : Option ℕ) → Contains (with_cells shape empty_view (first ∷ option_to_list second)).chains (owned_chain shape first)
@@ -78,7 +78,7 @@ module _ (shape : Shape) (task from to from' to' : ℕ) (are : AreLeafRanges sha
   module _ {B : Type 0} (fits : ℕ → B → Type 0) (done : B → List ℕ) (one : SeatView) (firsts : List B) (has : HasFetched shape fits done from start one firsts) (all : from + length firsts ≡ to) where
     pub can_second : (leaf : ℕ) → from' ≤ leaf → leaf < to' → CanFetch shape one.holds leaf
     can_second leaf l m =
-        can_still shape fits done from start one firsts has leaf (λ low high. are.apart leaf low (omega (arith, high, all)) l m)
+        can_still shape fits done from start one firsts has leaf (λ low high. in_one shape task from to from' to' are leaf low (omega (arith, high, all)) l m)
         (touched_can shape task leaf start claimed (let w = are.within' in omega (arith, w, m)) (touches_second shape task from to from' to' are leaf l m))
 
     module _ (two : SeatView) (seconds : List B) (has' : HasFetched shape fits done from' one two seconds) (all' : from' + length seconds ≡ to') where
@@ -141,7 +141,7 @@ module _ (shape : Shape) (task from to from' to' : ℕ) (are : AreLeafRanges sha
           apart = λ leaf c l m.
               let same = added'.one_each in
               let w = (in_range from to leaf).0 (subst (λ ls. Contains ls leaf) are.leaves c) in
-              are.apart leaf w.0 w.1 l (omega (arith, same, all', m));
+              in_one shape task from to from' to' are leaf w.0 w.1 l (omega (arith, same, all', m));
           each = worked_in (second_leaves shape task) from' to' seconds seconds' are.leaves' all' has'.each added';
         }
 
@@ -157,7 +157,7 @@ module _ (shape : Shape) (task from to from' to' : ℕ) (are : AreLeafRanges sha
                 let same = added.one_each in
                 let same' = added'.one_each in
                 let w = worked_in (first_leaves shape task) from to firsts firsts' are.leaves all first_out added k d l in
-                let other : from' ≤ from + k → from + k < from' + length seconds' → ⊥ = λ low high. are.apart (from + k) (omega arith) (omega (arith, l, same, all)) low (omega (arith, high, same', all')) in record {
+                let other : from' ≤ from + k → from + k < from' + length seconds' → ⊥ = λ low high. in_one shape task from to from' to' are (from + k) (omega arith) (omega (arith, l, same, all)) low (omega (arith, high, same', all')) in record {
                   out = put.still (from + k) other w.out;
                   fitting = w.fitting;
                   before = w.before;

@@ -1,7 +1,9 @@
+pub mod Ranges
 pub mod Refusals
 pub mod ReadyLists
 pub mod Offers
 pub mod Looks
+pub mod Claims
 pub mod Turns
 pub mod Worked
 pub mod Crews

@@ -13,8 +13,8 @@ pub record Scanned : Type 0 where
   pub notes : List QueueNote
 
 -- the notes of scans, in order
-abbrev pub notes_of : List Scanned → List QueueNote
-notes_of scans = flat_map (λ (s : Scanned). s.notes) scans
+abbrev pub notes_of_scans : List Scanned → List QueueNote
+notes_of_scans scans = flat_map (λ (s : Scanned). s.notes) scans
 
 -- a scan took nothing: it answered Held, Empty, or AllBusy, where each entry left behind was refused
 abbrev pub TookNone : (ℕ → Type 0) → ℕ → Scan → List QueueNote → Type 0
@@ -32,7 +32,7 @@ module _ (refused : ℕ → Type 0) (queues own : ℕ) where
   -- each queue answered in this turn, and nothing was taken
   pub record FoundNone (notes : List QueueNote) : Type 0 where
     pub scans : List Scanned
-    pub notes_are : notes ≡ notes_of scans
+    pub notes_are : notes ≡ notes_of_scans scans
     pub every : length scans ≡ queues
     pub looked : AreLooked scans
 
@@ -40,7 +40,7 @@ module _ (refused : ℕ → Type 0) (queues own : ℕ) where
   pub record FoundOne (task : ℕ) (notes : List QueueNote) : Type 0 where
     pub scans : List Scanned
     pub last : List QueueNote
-    pub notes_are : notes ≡ notes_of scans ++ last
+    pub notes_are : notes ≡ notes_of_scans scans ++ last
     pub few : length scans < queues
     pub looked : AreLooked scans
     pub got : WasGot refused (queue_at own queues (length scans)) task last

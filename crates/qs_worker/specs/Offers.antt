@@ -27,8 +27,8 @@ abbrev pub IsTurnedAway : Pushed → Type 0
 IsTurnedAway p = is_in p.answer ≡ false
 
 -- the notes of pushes, in order
-abbrev pub notes_of : List Pushed → List QueueNote
-notes_of pushes = flat_map (λ (p : Pushed). p.notes) pushes
+abbrev pub notes_of_pushes : List Pushed → List QueueNote
+notes_of_pushes pushes = flat_map (λ (p : Pushed). p.notes) pushes
 
 module _ (room queues own : ℕ) where
   -- an entry was pushed to the queues in cyclic order from the worker's own, and the notes show the answers
@@ -74,6 +74,6 @@ module _ (room queues own : ℕ) where
       pub left_from_the_last : before ≡ kept ++ reverse gone
       pub taken : List Pushed
       pub refused : List Pushed
-      pub notes_are : notes ≡ notes_of taken ++ notes_of refused
+      pub notes_are : notes ≡ notes_of_pushes taken ++ notes_of_pushes refused
       pub each_taken : AreTaken gone taken
       pub at_scan : IsStuck kept refused

@@ -1,5 +1,4 @@
 -- Definitions between private functions, and of what a worker keeps: no public clause cites them.
-pub mod Ranges
 pub mod Rooms
 pub mod Leaves
 pub mod Claimed

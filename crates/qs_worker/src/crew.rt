@@ -95,7 +95,7 @@ impl<W: Work> Crew<W> {
         })
     }
 
-    /// Each worker turns until it stops, in a thread of its own.
+    /// Each worker turns until it stops, in at most as many threads as there are workers.
     pub fn work<R: Threads + Sync, G: Gate>(
         &mut self,
         rt: &R,

@@ -9,11 +9,14 @@ mod looks;
 mod offers;
 mod ranges;
 mod shares;
+mod threads;
 mod trial;
 mod turn;
 mod worker;
 
 pub use crew::{Crew, NoCrew};
+pub use ranges::{LeafRange, ranges_of};
+pub use threads::worker_is_sent;
 pub use turn::Turn;
 pub use worker::{NoWorker, Worker};
 

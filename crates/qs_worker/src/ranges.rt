@@ -1,15 +1,17 @@
 //! The leaves of a task, as two ranges.
 ghost use Rattle.std.specs.Prelude.{◌≡◌, ◌<◌, length};
 ghost use Rattle.qs_core.specs.Shape.{IsShape};
-ghost use Rattle.qs_worker.specs.inner.Ranges.{AreLeafRanges};
+ghost use Rattle.qs_worker.specs.Ranges.{AreLeafRanges};
 
 use qs_core::Work;
 
 /// The leaves below a cell: from one number up to another, which is excluded.
 #[derive(Clone, Copy)]
-pub(crate) struct LeafRange {
-    pub(crate) from: u32,
-    pub(crate) to: u32,
+pub struct LeafRange {
+    /// The first leaf.
+    pub from: u32,
+    /// The number behind the last leaf.
+    pub to: u32,
 }
 
 impl LeafRange {
@@ -24,7 +26,7 @@ impl LeafRange {
 }
 
 /// The leaves of a task's first cell, and of its second: none, behind the others, where it has one cell.
-pub(crate) fn ranges_of<W: Work>(work: &W, task: u32) -> (LeafRange, LeafRange)
+pub fn ranges_of<W: Work>(work: &W, task: u32) -> (LeafRange, LeafRange)
     requires task { task < length (W.shape (W.plan work.now)).tasks }
     ensures ranges { AreLeafRanges (W.shape (W.plan work.now)) task result.0.from result.0.to result.1.from result.1.to }
     ensures laws { IsShape (W.shape (W.plan work.now)) }

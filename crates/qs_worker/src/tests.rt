@@ -5,6 +5,8 @@ ghost use Rattle.qs_table.specs.Seats.{IsNewSeat, IsSeatOf};
 ghost use Rattle.qs_queues.specs.Seats as queue;
 ghost use Rattle.qs_worker.specs.Crews.{IsOn};
 
+mod beside;
+
 use crate::crew::Crew;
 use crate::turn::Turn;
 use crate::worker::Worker;

@@ -1,23 +1,18 @@
 //! A worker, and its turns.
-ghost use Rattle.std.specs.Prelude.{◌≡◌, ◌++◌, ◌∷◌, ◌<◌, [], Contains, IfErr, IfOk, None, Some, length};
+ghost use Rattle.std.specs.Prelude.{◌≡◌, ◌++◌, ◌∷◌, ◌<◌, [], Contains, IfErr, IfOk, Some, length};
 ghost use Rattle.qs_core.specs.Core.{empty_view};
 ghost use Rattle.qs_table.specs.Seats.{IsIdle, IsSeatOf};
-ghost use Rattle.qs_queues.specs.Calls.{Noted};
 ghost use Rattle.qs_queues.specs.Seats as queue;
-ghost use Rattle.qs_worker.specs.Looks.{Found};
 ghost use Rattle.qs_worker.specs.ReadyLists.{IsFirstTask, IsReadyList};
-ghost use Rattle.qs_worker.specs.Refusals.{WasRefused};
 ghost use Rattle.qs_worker.specs.Turns.{Turned};
 ghost use Rattle.qs_worker.specs.Worked.{Worked};
-ghost use Rattle.qs_worker.specs.inner.Idling.{idle_left};
+ghost use Rattle.qs_worker.specs.inner.Idling.{rest_after};
 ghost use Rattle.qs_worker.specs.inner.Rooms.{HasRoom};
-ghost use Rattle.qs_worker.specs.inner.Trials.{HasLooked, since};
 
 use crate::claimed::do_claimed;
 use crate::desk::{Desk, furnish, most_leaves};
-use crate::looks::look_round;
+use crate::looks::look;
 use crate::offers::push_ready;
-use crate::trial::TaskTrial;
 use crate::turn::Turn;
 use qs_core::Work;
 use qs_queues::{QueueSeat, Queues};
@@ -65,56 +60,11 @@ pub struct NoWorker<W: Work> {
     pub queue_seat: QueueSeat,
 }
 
-/// Looks at the queues with a trial of tasks.
-fn look_with<W: Work>(
-    queues: &Queues,
-    queue_seat: &mut QueueSeat,
-    own: u32,
-    trial: &mut TaskTrial<W>,
-) -> Option<u32>
-    requires queue_seat { queue.IsSeatOf queues.now queue_seat.old }
-    requires own { own < queues.now.queues }
-    requires tasks { queues.now.tasks ≡ length (W.shape trial.old.table.plan).tasks }
-    requires none { trial.old.taken ≡ None }
-    ensures queue_seat { queue.IsSeatOf queues.now queue_seat.new }
-    ensures name { trial.new.name ≡ trial.old.name }
-    ensures start { (trial.new.start ≡ trial.old.start) × (trial.new.table ≡ trial.old.table) }
-    ensures taken { trial.new.taken ≡ result }
-    ensures found { Noted (Found (WasRefused (W.shape trial.new.table.plan) (since trial.new.start.notes trial.new.now.view.notes)) queues.now.queues own result) queue_seat.old.view queue_seat.new.view }
-{
-    look_round(queues, queue_seat, own, trial)
-}
-
-/// Looks at the queues for a task that can be claimed.
-fn look<W: Work>(
-    work: &W,
-    table: &ResTable<W>,
-    queues: &Queues,
-    seat: &mut QsSeat<W>,
-    queue_seat: &mut QueueSeat,
-    own: u32,
-) -> Option<u32>
-    requires work { W.plan work.now ≡ table.now.plan }
-    requires seat { IsSeatOf table.now seat.old }
-    requires rests { seat.old.view.holds ≡ empty_view }
-    requires queue_seat { queue.IsSeatOf queues.now queue_seat.old }
-    requires own { own < queues.now.queues }
-    requires tasks { queues.now.tasks ≡ length (W.shape table.now.plan).tasks }
-    ensures seat { IsSeatOf table.now seat.new }
-    ensures queue_seat { queue.IsSeatOf queues.now queue_seat.new }
-    ensures looked { HasLooked (W.shape table.now.plan) queues.now.queues own seat.old.view queue_seat.old.view result seat.new.view queue_seat.new.view }
-{
-    let mut trial = TaskTrial::new(work, table, seat);
-    let found = look_with(queues, queue_seat, own, &mut trial);
-    let _lent = trial.into_seat();
-    found
-}
-
-/// How many more turns in a row may be Idle after a turn, where so many might before it. After an Idle one other threads may
-/// run.
-fn idle_left(answer: Turn, left: u32) -> u32
+/// How many more turns in a row may be Idle after a turn, where so many might before it. After an Idle one it yields, so that
+/// other threads may run.
+fn rest_after(answer: Turn, left: u32) -> u32
     requires { 0 < left }
-    ensures { result ≡ idle_left answer left }
+    ensures { result ≡ rest_after answer left }
 {
     match answer {
         Turn::Over => 0,
@@ -249,11 +199,12 @@ impl<W: Work> Worker<W> {
         ensures queue_seat { queue.IsSeatOf queues.now self.new.queue_seat }
         ensures number { self.new.number ≡ self.old.number }
         ensures worked { Worked (W.shape table.now.plan) queues.now 65536 self.old self.new }
+        ensures ready { IsReadyList (W.shape table.now.plan) self.new.lock_seat.view.notes self.new.ready }
     {
         let mut left = IDLE_TURNS;
         while left > 0 {
             let answer = self.turn(work, table, queues, gate);
-            left = idle_left(answer, left);
+            left = rest_after(answer, left);
         }
     }
 

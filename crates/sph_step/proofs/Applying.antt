@@ -6,7 +6,7 @@ use Rattle.std.proofs.lemmas.List.{get_or-set_same, get_or_default, length-map, 
 use Rattle.std.proofs.lemmas.List.FromFn.{length-range_with_len, get_or-range_with_len}
 use Rattle.sph_num.specs.declared.kind.Kind.{Kind}
 use Rattle.sph_num.specs.declared.kind.Kind.TheVariants.{Drift, Density, Ghost, Force, Kick}
-use Rattle.cell_block.specs.declared.block.Block.{Block}
+use Rattle.cell_block.specs.declared.rows.BlockRows.{BlockRows}
 use Rattle.cell_block.specs.declared.scene.Scene.{Scene}
 use Rattle.cell_block.specs.declared.scene.TaskLine.{TaskLine}
 use Rattle.cell_block.specs.Blocks.{Agrees, AreAdded, AreReady, IsAdded, IsReady, done_of}
@@ -68,7 +68,7 @@ module _ (plan : StagePlan) (is : IsStage plan) where
         ∙ no_leaves shape (task_at plan.graph.tasks task).second (ap (λ (l : TaskLine). l.second) (sym (line_is plan is.lines task within)) ∙ one)
 
     -- a block that is ready for the work is so for the scene
-    ready_block : (leaf : ℕ) (block : Block) → work.IsReady (shape_of plan) task leaf (Agrees plan.scene leaf block) (done_of block) → IsReady plan.scene task leaf block
+    ready_block : (leaf : ℕ) (block : BlockRows) → work.IsReady (shape_of plan) task leaf (Agrees plan.scene leaf block) (done_of block) → IsReady plan.scene task leaf block
     ready_block leaf block ready = record {
       agrees = ready.fitting;
       not_done = ready.not_done;
@@ -77,7 +77,7 @@ module _ (plan : StagePlan) (is : IsStage plan) where
           (Touches-from_line plan is.lines earlier leaf (subst (λ n. earlier < n) lines_long (path_within plan.scene earlier precedes.0 task precedes.1)) touched);
     }
 
-    module _ (range : ℕ × ℕ) (leaves : List ℕ) (are : leaves ≡ leaves_between range) (blocks : List Block) (ready : work.AreReady (shape_of plan) task (fits_in plan) done_of leaves blocks) where
+    module _ (range : ℕ × ℕ) (leaves : List ℕ) (are : leaves ≡ leaves_between range) (blocks : List BlockRows) (ready : work.AreReady (shape_of plan) task (fits_in plan) done_of leaves blocks) where
       count_is : length leaves ≡ range.1 - range.0
       count_is = ap length are ∙ length-range_with_len range.0 (range.1 - range.0)
 
@@ -94,7 +94,7 @@ module _ (plan : StagePlan) (is : IsStage plan) where
       }
 
       -- and what was added for the scene was added for the work
-      pub added_blocks : (after : List Block) → AreAdded plan.scene task range blocks after → work.AreAdded (shape_of plan) task (fits_in plan) done_of leaves blocks after
+      pub added_blocks : (after : List BlockRows) → AreAdded plan.scene task range blocks after → work.AreAdded (shape_of plan) task (fits_in plan) done_of leaves blocks after
       added_blocks after added = record {
         one_each = added.one_each;
         added = λ k d low.
@@ -104,7 +104,7 @@ module _ (plan : StagePlan) (is : IsStage plan) where
       }
 
     -- where there is no leaf there is nothing to add
-    pub none_added : (leaves : List ℕ) (blocks : List Block) → leaves ≡ [] → work.AreAdded (shape_of plan) task (fits_in plan) done_of leaves blocks blocks
+    pub none_added : (leaves : List ℕ) (blocks : List BlockRows) → leaves ≡ [] → work.AreAdded (shape_of plan) task (fits_in plan) done_of leaves blocks blocks
     none_added leaves blocks none = record { one_each = refl; added = λ k d low. absurd (omega (arith, ap length none)) }
 
 -- what the work tells of a task is what the graph tells
@@ -124,7 +124,7 @@ module _ (plan now : StagePlan) (same : plan ≡ now) (is : IsStage plan) (task 
   pub line_within : task < length plan.scene.tasks
   line_within = subst (λ n. task < n) (sym (lines_long plan is)) (task_within plan now task same low)
 
-  module _ (blocks : List Block) (ready : work.AreReady (shape_of now) task (fits_in now) done_of (first_leaves (shape_of now) task) blocks) where
+  module _ (blocks : List BlockRows) (ready : work.AreReady (shape_of now) task (fits_in now) done_of (first_leaves (shape_of now) task) blocks) where
     first_of_plan : work.AreReady (shape_of plan) task (fits_in plan) done_of (first_leaves (shape_of plan) task) blocks
     first_of_plan = subst (λ (p : StagePlan). work.AreReady (shape_of p) task (fits_in p) done_of (first_leaves (shape_of p) task) blocks) (sym same) ready
 
@@ -133,13 +133,13 @@ module _ (plan now : StagePlan) (same : plan ≡ now) (is : IsStage plan) (task 
         let within = task_within plan now task same low in
         ready_blocks plan is task within (line_at plan.scene task).first (first_leaves (shape_of plan) task) (first_between plan is task within) blocks first_of_plan
 
-    pub first_added : (after : List Block) → AreAdded plan.scene task (line_at plan.scene task).first blocks after → work.AreAdded (shape_of now) task (fits_in now) done_of (first_leaves (shape_of now) task) blocks after
+    pub first_added : (after : List BlockRows) → AreAdded plan.scene task (line_at plan.scene task).first blocks after → work.AreAdded (shape_of now) task (fits_in now) done_of (first_leaves (shape_of now) task) blocks after
     first_added after added =
         let within = task_within plan now task same low in
         subst (λ (p : StagePlan). work.AreAdded (shape_of p) task (fits_in p) done_of (first_leaves (shape_of p) task) blocks after) same
         (added_blocks plan is task within (line_at plan.scene task).first (first_leaves (shape_of plan) task) (first_between plan is task within) blocks first_of_plan after added)
 
-  module _ (range : ℕ × ℕ) (two : (line_at plan.scene task).second ≡ Some range) (blocks : List Block) (ready : work.AreReady (shape_of now) task (fits_in now) done_of (second_leaves (shape_of now) task) blocks) where
+  module _ (range : ℕ × ℕ) (two : (line_at plan.scene task).second ≡ Some range) (blocks : List BlockRows) (ready : work.AreReady (shape_of now) task (fits_in now) done_of (second_leaves (shape_of now) task) blocks) where
     second_of_plan : work.AreReady (shape_of plan) task (fits_in plan) done_of (second_leaves (shape_of plan) task) blocks
     second_of_plan = subst (λ (p : StagePlan). work.AreReady (shape_of p) task (fits_in p) done_of (second_leaves (shape_of p) task) blocks) (sym same) ready
 
@@ -148,13 +148,13 @@ module _ (plan now : StagePlan) (same : plan ≡ now) (is : IsStage plan) (task 
         let within = task_within plan now task same low in
         ready_blocks plan is task within range (second_leaves (shape_of plan) task) (second_between plan is task within range two) blocks second_of_plan
 
-    pub second_added : (after : List Block) → AreAdded plan.scene task range blocks after → work.AreAdded (shape_of now) task (fits_in now) done_of (second_leaves (shape_of now) task) blocks after
+    pub second_added : (after : List BlockRows) → AreAdded plan.scene task range blocks after → work.AreAdded (shape_of now) task (fits_in now) done_of (second_leaves (shape_of now) task) blocks after
     second_added after added =
         let within = task_within plan now task same low in
         subst (λ (p : StagePlan). work.AreAdded (shape_of p) task (fits_in p) done_of (second_leaves (shape_of p) task) blocks after) same
         (added_blocks plan is task within range (second_leaves (shape_of plan) task) (second_between plan is task within range two) blocks second_of_plan after added)
 
-  pub second_left : (blocks : List Block) → (line_at plan.scene task).second ≡ None → work.AreAdded (shape_of now) task (fits_in now) done_of (second_leaves (shape_of now) task) blocks blocks
+  pub second_left : (blocks : List BlockRows) → (line_at plan.scene task).second ≡ None → work.AreAdded (shape_of now) task (fits_in now) done_of (second_leaves (shape_of now) task) blocks blocks
   second_left blocks one =
       let within = task_within plan now task same low in
       subst (λ (p : StagePlan). work.AreAdded (shape_of p) task (fits_in p) done_of (second_leaves (shape_of p) task) blocks blocks) same
@@ -188,7 +188,7 @@ module _ (scene : Scene) (task : ℕ) (kind : Kind) (good : IsGoodScene scene) (
       let none : (line_at scene task).second ≡ None = ap (λ (l : TaskLine). l.second) (leaf_line_is scene task kind good within of is) in
       cc
 
-  module _ (blocks : List Block) (ready : AreReady scene task (line_at scene task).first blocks) where
+  module _ (blocks : List BlockRows) (ready : AreReady scene task (line_at scene task).first blocks) where
     pub one_block : length blocks ≡ 1
     one_block =
         let line = line_at scene task in
@@ -196,14 +196,14 @@ module _ (scene : Scene) (task : ℕ) (kind : Kind) (good : IsGoodScene scene) (
         let one : leaf + 1 - leaf ≡ 1 = omega arith in
         ready.one_each ∙ ap (λ (l : TaskLine). l.first.1 - l.first.0) (leaf_line_is scene task kind good within of is) ∙ one
 
-    pub one_ready : (d : Block) → IsReady scene task (line_at scene task).first.0 (get_or blocks 0 d)
+    pub one_ready : (d : BlockRows) → IsReady scene task (line_at scene task).first.0 (get_or blocks 0 d)
     one_ready d =
         let leaf = (line_at scene task).first.0 in
         let here : leaf + 0 ≡ leaf = omega arith in
         let low : 0 < length blocks = let one = one_block in omega arith in
         subst (λ n. IsReady scene task n (get_or blocks 0 d)) here (ready.ready 0 d low)
 
-    pub one_added : (d new : Block) → IsAdded scene task (line_at scene task).first.0 (get_or blocks 0 d) new → AreAdded scene task (line_at scene task).first blocks (slice_set blocks 0 new)
+    pub one_added : (d new : BlockRows) → IsAdded scene task (line_at scene task).first.0 (get_or blocks 0 d) new → AreAdded scene task (line_at scene task).first blocks (slice_set blocks 0 new)
     one_added d new added =
         let leaf = (line_at scene task).first.0 in
         let low : 0 < length blocks = let one = one_block in omega arith in

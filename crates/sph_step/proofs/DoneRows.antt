@@ -14,7 +14,7 @@ use Rattle.sph_num.specs.Force.{force_of}
 use Rattle.sph_num.specs.Kinds.{same_kind}
 use Rattle.sph_bins.specs.Bins.{is_due}
 use Rattle.sph_bins.specs.Kick.{density_at, force_at, ghost_at, kicked, next_list}
-use Rattle.cell_block.specs.declared.block.Block.{Block}
+use Rattle.cell_block.specs.declared.rows.BlockRows.{BlockRows}
 use Rattle.cell_block.specs.declared.scene.Scene.{Scene}
 use Rattle.cell_block.specs.declared.scene.TaskLine.{TaskLine}
 use Rattle.cell_block.specs.Blocks.{Agrees, done_of}
@@ -97,7 +97,7 @@ module _ (scene : Scene) (good : IsGoodScene scene) (leaf : ℕ) (done : List �
       ∙ sym (next_at scene.params scene.start scene.tick i (member_inside scene leaf i good.leaves at))
 
 -- so the block tells of a member what stands at its index after the step
-pub member_is_next : (scene : Scene) (leaf : ℕ) (block : Block) → IsGoodScene scene → Agrees scene leaf block → EachDone scene leaf (done_of block) → (k : ℕ) → k < length block.members.items
+pub member_is_next : (scene : Scene) (leaf : ℕ) (block : BlockRows) → IsGoodScene scene → Agrees scene leaf block → EachDone scene leaf (done_of block) → (k : ℕ) → k < length block.members.items
     → member_of block k ≡ get_or (next_of scene) (get_or block.members.items k 0) no_particle
 member_is_next scene leaf block good agrees all k inside =
     let done = done_of block in

@@ -7,7 +7,7 @@ use Rattle.std.proofs.lemmas.Option.{get_or_from_slice_get, slice_get_within}
 use Rattle.std.proofs.lemmas.List.Kept.{AllPairs-from_increasing}
 use Rattle.sph_num.specs.declared.particle.Particle.{Particle}
 use Rattle.sph_bins.proofs.Steps.{length-next_list}
-use Rattle.cell_block.specs.declared.block.Block.{Block}
+use Rattle.cell_block.specs.declared.rows.BlockRows.{BlockRows}
 use Rattle.cell_block.specs.declared.scene.Scene.{Scene}
 use Rattle.cell_block.specs.declared.scene.TaskLine.{TaskLine}
 use Rattle.cell_block.specs.Blocks.{Agrees, done_of}
@@ -22,14 +22,14 @@ use Rattle.sph_step.proofs.DoneRows.{EachDone, member_is_next, next_of}
 use Rattle.sph_step.proofs.Touched.{Touches-from_line, length-shape_tasks}
 
 -- no member is put yet, and one more
-pub none_put : (block : Block) (list : List Particle) → ArePut block 0 list list
+pub none_put : (block : BlockRows) (list : List Particle) → ArePut block 0 list list
 none_put block list = record {
   same_length = refl;
   members = λ k low. absurd (omega arith);
   others = λ i not_member. refl;
 }
 
-pub one_more : (block : Block) (k : ℕ) (old list : List Particle) → IsStrictlyIncreasing block.members.items → k < length block.members.items → get_or block.members.items k 0 < length list → ArePut block k old list
+pub one_more : (block : BlockRows) (k : ℕ) (old list : List Particle) → IsStrictlyIncreasing block.members.items → k < length block.members.items → get_or block.members.items k 0 < length list → ArePut block k old list
     → ArePut block (k + 1) old (set list (get_or block.members.items k 0) (member_of block k))
 one_more block k old list rising inside within put =
     let ms = block.members.items in
@@ -60,13 +60,13 @@ pub none_next : (scene : Scene) (list : List Particle) → list ≡ scene.start 
 none_next scene list is = record { same_length = ap length is; members = λ leaf i low at. absurd (omega arith) }
 
 -- a leaf's block with every task done that touches the leaf
-pub record IsDoneBlock (scene : Scene) (leaf : ℕ) (block : Block) : Type 0 where
+pub record IsDoneBlock (scene : Scene) (leaf : ℕ) (block : BlockRows) : Type 0 where
   pub inside : leaf < length scene.leaves
   pub agrees : Agrees scene leaf block
   pub done : EachDone scene leaf (done_of block)
 
 -- it is put, as the next of the leaves
-pub next_leaf : (scene : Scene) (leaf : ℕ) (block : Block) (old new : List Particle) → IsGoodScene scene → IsDoneBlock scene leaf block → ArePut block (length block.members.items) old new → AreNext scene leaf old → AreNext scene (leaf + 1) new
+pub next_leaf : (scene : Scene) (leaf : ℕ) (block : BlockRows) (old new : List Particle) → IsGoodScene scene → IsDoneBlock scene leaf block → ArePut block (length block.members.items) old new → AreNext scene leaf old → AreNext scene (leaf + 1) new
 next_leaf scene leaf block old new good is put before =
     let ms = block.members.items in
     record {
@@ -99,7 +99,7 @@ all_next scene list leaves are =
     )
 
 -- what stands at a leaf once all tasks of a stage are done
-pub done_block : (plan : StagePlan) (blocks : List Block) (leaf : ℕ) (block : Block) → IsStage plan → AreAllDone (shape_of plan) (fits_in plan) done_of blocks → leaf < length plan.scene.leaves → block ≡ get_or blocks leaf block
+pub done_block : (plan : StagePlan) (blocks : List BlockRows) (leaf : ℕ) (block : BlockRows) → IsStage plan → AreAllDone (shape_of plan) (fits_in plan) done_of blocks → leaf < length plan.scene.leaves → block ≡ get_or blocks leaf block
     → IsDoneBlock plan.scene leaf block
 done_block plan blocks leaf block stage are inside stands = record {
   inside = inside;
@@ -108,5 +108,5 @@ done_block plan blocks leaf block stage are inside stands = record {
       let long = ap (λ (ls : List TaskLine). length ls) stage.lines ∙ length-map plan.graph.tasks (line_of plan) in
       let within : task < length plan.graph.tasks = omega (arith, low, long) in
       let told : task < length (shape_of plan).tasks = omega (arith, within, length-shape_tasks plan) in
-      subst (λ (b : Block). Contains (done_of b) task) (sym stands) ((are.tasks leaf block inside task).1 (told, Touches-from_line plan stage.lines task leaf within touched));
+      subst (λ (b : BlockRows). Contains (done_of b) task) (sym stands) ((are.tasks leaf block inside task).1 (told, Touches-from_line plan stage.lines task leaf within touched));
 }

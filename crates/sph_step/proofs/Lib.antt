@@ -14,6 +14,7 @@ pub mod GoodScenes
 pub mod Stages
 pub mod Applying
 pub mod Filled
+pub mod FreshBlocks
 pub mod Prepared
 pub mod DoneRows
 pub mod Gathered

@@ -11,15 +11,12 @@ use Rattle.sph_num.specs.declared.particle.Params.{Params}
 use Rattle.sph_num.specs.declared.particle.Particle.{Particle}
 use Rattle.sph_bins.specs.Bins.{is_due}
 use Rattle.sph_bins.specs.Kick.{place_at}
-use Rattle.cell_block.specs.declared.block.Block.{Block}
 use Rattle.cell_block.specs.declared.scene.Scene.{Scene}
 use Rattle.cell_block.specs.declared.scene.TaskLine.{TaskLine}
-use Rattle.cell_block.specs.Blocks.{done_of}
 use Rattle.cell_tree.specs.declared.tree.Span.{Span}
 use Rattle.cell_tree.specs.Spans.{IsOtherCell}
 use Rattle.cell_tree.specs.Tree.{Made, cells_of, made_of}
 use Rattle.pair_cover.specs.Looks.{spans_of}
-use Rattle.qs_core.specs.Blocks.{AreFresh}
 use Rattle.task_graph.specs.declared.task.Task.{Task}
 use Rattle.task_graph.specs.Graph.{Plan, WaitAtLeaves, graph_of}
 use Rattle.task_graph.specs.Meeting.{MeetOnce}
@@ -27,9 +24,9 @@ use Rattle.task_graph.specs.Tasks.{IsOnSpan}
 use Rattle.task_weight.specs.Edges.{AreForward, AreRising}
 use Rattle.sph_step.specs.declared.stage.StagePlan.{StagePlan}
 use Rattle.sph_step.specs.Made.{IsParentOf, IsRangeOf, IsStageOf, TellsCells, dues_at, leaves_in, limits_of, made_at, spans_at}
-use Rattle.sph_step.specs.Stage.{fits_in, line_in, line_of, range_in, shape_of}
+use Rattle.sph_step.specs.Stage.{line_in, line_of, range_in}
 use Rattle.sph_step.specs.inner.Graphs.{IsGraphOn}
-use Rattle.sph_step.specs.inner.Told.{AreFilled, AreParents, AreRanges, IsAmong, IsAmongSome, IsFreshAt}
+use Rattle.sph_step.specs.inner.Told.{AreParents, AreRanges, IsAmong, IsAmongSome}
 
 -- a task on a span of the tree is on two of so many cells
 other_among : (made : Made) (first cells : ℕ) (second : Option ℕ) → length (cells_of made) ≡ cells → IsOtherCell made first second → IsAmongSome cells second
@@ -104,13 +101,6 @@ spans_are params t list made dues spans made_is dues_are spans_is =
 -- a cover of at most so many points has few spans
 pub spans_few : (spans points : ℕ) → points ≤ 32768 → 2 * spans ≤ points * (points + 1) → spans < 2 ^ 30
 spans_few spans points few most = omega (arith, mul-le points (points + 1) 32768 32769 few (omega arith))
-
--- blocks for all leaves, with nothing done
-pub fresh : (plan : StagePlan) (count : ℕ) (blocks : List Block) → count ≡ length plan.scene.leaves → AreFilled (IsFreshAt plan) count blocks → AreFresh (shape_of plan) (fits_in plan) done_of blocks
-fresh plan count blocks all are = record {
-  fitting = record { one_each = are.one_each ∙ all; each = λ leaf d low. (are.each leaf d (subst (λ n. leaf < n) (sym all) low)).0 };
-  none_done = λ leaf d low. (are.each leaf d (subst (λ n. leaf < n) (sym all) low)).1;
-}
 
 -- a graph, once it is built, is one on the spans
 pub graph_on : {E : Type 0} (r : Result Plan E) (made : Made) (spans : List Span) → IfOk r (λ (plan : Plan). length plan.tasks < 2 ^ 32) → IfOk r (λ (plan : Plan). All (IsOnSpan made) plan.tasks)

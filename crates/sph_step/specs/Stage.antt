@@ -1,7 +1,7 @@
 -- A step as a work: its cells and tasks, when a block fits, and what every stage keeps.
 use Rattle.std.specs.Prelude.{◌≡◌, ℕ, ◌<◌, List, length, map, slice_get, slice_index, option_map, unwrap_or}
 use Rattle.std.specs.List.{range_with_len}
-use Rattle.cell_block.specs.declared.block.Block.{Block}
+use Rattle.cell_block.specs.declared.rows.BlockRows.{BlockRows}
 use Rattle.cell_block.specs.declared.scene.TaskLine.{TaskLine}
 use Rattle.cell_block.specs.Blocks.{Agrees}
 use Rattle.cell_block.specs.Scene.{IsGoodScene, IsLineEdge}
@@ -30,7 +30,7 @@ shape_of plan = record {
 }
 
 -- a block fits a leaf where it agrees with the scene there
-abbrev pub fits_in : StagePlan → ℕ → Block → Type 0
+abbrev pub fits_in : StagePlan → ℕ → BlockRows → Type 0
 fits_in plan leaf block = Agrees plan.scene leaf block
 
 -- a task by the leaves below its cells: by these ranges, one a cell, and by the plan's

@@ -1,4 +1,5 @@
 -- Definitions between private functions: no public clause cites them.
+pub mod Fresh
 pub mod Graphs
 pub mod Put
 pub mod Told

@@ -4,7 +4,7 @@ ghost use Rattle.cell_block.specs.Blocks.{AreAdded, AreReady};
 ghost use Rattle.cell_block.specs.Scene.{IsGoodScene, line_at};
 ghost use Rattle.cell_kern.specs.Tasks.{second_of};
 
-use cell_block::{BoxedBlock, Scene};
+use cell_block::{Block, Scene};
 use cell_kern::{density_pair, density_self, force_pair, force_self};
 use cell_kick::{drift, ghost_, kick};
 use sph_num::{Kind, Tables};
@@ -15,7 +15,7 @@ pub(crate) fn apply_on_one(
     tables: &Tables,
     kind: Kind,
     task: u32,
-    blocks: &mut [BoxedBlock],
+    blocks: &mut [Block],
 )
     requires scene { IsGoodScene scene.now }
     requires task { task < length scene.now.tasks }
@@ -39,8 +39,8 @@ pub(crate) fn apply_on_two(
     tables: &Tables,
     kind: Kind,
     task: u32,
-    first: &mut [BoxedBlock],
-    second: &mut [BoxedBlock],
+    first: &mut [Block],
+    second: &mut [Block],
 )
     requires scene { IsGoodScene scene.now }
     requires task { task < length scene.now.tasks }

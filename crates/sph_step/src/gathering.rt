@@ -9,11 +9,11 @@ ghost use Rattle.sph_step.specs.Stage.{fits_in, shape_of};
 ghost use Rattle.sph_step.specs.inner.Put.{ArePut};
 
 use crate::stage::Stage;
-use cell_block::{Block, BoxedBlock};
+use cell_block::{Block, BlockRows};
 use sph_num::Particle;
 
 /// Writes each member of each block into its place of the list from which the stage was made. Takes no memory.
-pub fn gather(stage: &Stage, blocks: Vec<BoxedBlock>, particles: &mut [Particle])
+pub fn gather(stage: &Stage, blocks: Vec<Block>, particles: &mut [Particle])
     requires start { particles.old ≡ stage.now.scene.start }
     requires blocks { AreAllDone (shape_of stage.now) (fits_in stage.now) done_of blocks.items }
     ensures { particles.new ≡ next_list stage.now.scene.params stage.now.scene.start stage.now.scene.tick }
@@ -25,7 +25,7 @@ pub fn gather(stage: &Stage, blocks: Vec<BoxedBlock>, particles: &mut [Particle]
 }
 
 /// Writes each member of a block at its index.
-fn put_members(block: &Block, particles: &mut [Particle])
+fn put_members(block: &BlockRows, particles: &mut [Particle])
     requires whole { IsWhole block.now }
     requires rising { IsStrictlyIncreasing block.now.members.items }
     requires within { All (λ i. i < length particles.old) block.now.members.items }

@@ -3,6 +3,7 @@
 #![tactic(auto)]
 
 mod apply;
+mod blocks;
 mod cells;
 mod gathering;
 mod lines;

@@ -9,18 +9,18 @@ ghost use Rattle.sph_bins.specs.InBounds.{InBounds};
 ghost use Rattle.sph_bins.specs.Kick.{place_at};
 ghost use Rattle.sph_num.specs.Bound.{bounds_of};
 ghost use Rattle.sph_plain.specs.Run.{before};
-ghost use Rattle.sph_step.specs.Made.{IsStageOf, dues_at, limits_of, made_at, spans_at};
+ghost use Rattle.sph_step.specs.Made.{IsStageOf, dues_at, made_at, spans_at};
 ghost use Rattle.sph_step.specs.Stage.{IsStage, fits_in, shape_of};
 ghost use Rattle.sph_step.specs.inner.Graphs.{IsGraphOn};
 ghost use Rattle.task_graph.specs.Graph.{graph_of};
 
+use crate::blocks::blocks_here;
 use crate::cells::{leaves_of, parents_of, ranges_of};
 use crate::lines::lines_of;
 use crate::stage::{Stage, StagePlan};
-use cell_block::{Block, BoxedBlock, Scene, tasks_by_leaf};
+use cell_block::{Block, Scene};
 use cell_tree::Tree;
 use pair_cover::{Limits, cover};
-use qs_core::Work;
 use sph_bins::due;
 use sph_deck::{Deck, bounds_of};
 use sph_num::{Particle, ParticleList, Tables, position};
@@ -35,7 +35,7 @@ pub fn prepare(
     deck: &Deck,
     particles: &[Particle],
     t: u32,
-) -> Result<(Stage, Vec<BoxedBlock>), AllocError>
+) -> Result<(Stage, Vec<Block>), AllocError>
     requires tick { IsStepTick deck.now.params t }
     requires before { particles.now ≡ before deck.now t }
     ensures stage { IfOk result (λ r. IsStageOf deck.now.params (bounds_of deck.now.particles) t particles.now r.0) }
@@ -43,42 +43,27 @@ pub fn prepare(
     ensures blocks { IfOk result (λ r. AreFresh (shape_of r.0) (fits_in r.0) done_of r.1.items) }
 {
     let tables = Arc::new(alloc, Tables::new(alloc)?)?;
-    prepare_with(alloc, tables, deck, particles, t)
+    let stage = stage_of(alloc, tables, deck, particles, t)?;
+    let blocks = blocks_here(alloc, &stage)?;
+    Ok((stage, blocks))
 }
 
-/// As `prepare`, with the kernel's tables at hand.
-pub(crate) fn prepare_with(
+/// The stage of the step at tick `t`, with the kernel's tables at hand.
+pub(crate) fn stage_of(
     alloc: Global,
     tables: Arc<Tables, Global>,
     deck: &Deck,
     particles: &[Particle],
     t: u32,
-) -> Result<(Stage, Vec<BoxedBlock>), AllocError>
+) -> Result<Stage, AllocError>
     requires tick { IsStepTick deck.now.params t }
     requires before { particles.now ≡ before deck.now t }
-    ensures stage { IfOk result (λ r. IsStageOf deck.now.params (bounds_of deck.now.particles) t particles.now r.0) }
-    ensures kept { IfOk result (λ r. IsStage r.0) }
-    ensures blocks { IfOk result (λ r. AreFresh (shape_of r.0) (fits_in r.0) done_of r.1.items) }
+    ensures stage { IfOk result (λ stage. IsStageOf deck.now.params (bounds_of deck.now.particles) t particles.now stage) }
+    ensures kept { IfOk result (λ stage. IsStage stage) }
 {
     let plan = plan_of(alloc, deck, particles, t)?;
     let stage = Stage::new(plan, tables);
-    let blocks = blocks_of(alloc, &stage)?;
-    Ok((stage, blocks))
-}
-
-/// The blocks of a stage's leaves.
-fn blocks_of(alloc: Global, stage: &Stage) -> Result<Vec<BoxedBlock>, AllocError>
-    ensures { IfOk result (λ blocks. AreFresh (shape_of stage.now) (fits_in stage.now) done_of blocks.items) }
-{
-    let scene = stage.scene();
-    let tasks = tasks_by_leaf(alloc, scene)?;
-    let mut blocks = Vec::with_capacity(alloc, stage.leaves() as usize)?;
-    for leaf in 0..stage.leaves() {
-        let at = tasks[leaf as usize].as_slice();
-        let block = Block::with_tasks(alloc, scene, leaf, at)?;
-        blocks.push(BoxedBlock::new(alloc, block)?)?;
-    }
-    Ok(blocks)
+    Ok(stage)
 }
 
 /// What is kept of the tree of the particles' places and of its cover.

@@ -5,7 +5,7 @@ ghost use Rattle.cell_block.specs.Scene.{IsGoodScene};
 ghost use Rattle.sph_step.specs.Stage.{IsStage, fits_in, shape_of};
 
 use crate::apply::{apply_on_one, apply_on_two};
-use cell_block::{BoxedBlock, Scene};
+use cell_block::{Block, Scene};
 use qs_core::Work;
 use sph_num::Tables;
 use std::alloc::Global;
@@ -74,7 +74,7 @@ impl Stage {
 impl Work for Stage {
     type Plan = StagePlan;
 
-    type Block = BoxedBlock;
+    type Block = Block;
 
     ghost plan = { λ stage. stage };
 
@@ -120,7 +120,7 @@ impl Work for Stage {
         self.plan.graph.weight(task)
     }
 
-    fn apply(&self, task: u32, first: &mut [BoxedBlock], second: &mut [BoxedBlock]) {
+    fn apply(&self, task: u32, first: &mut [Block], second: &mut [Block]) {
         let scene = &self.plan.scene;
         let line = scene.tasks.as_slice()[task as usize];
         match line.second {

@@ -3,8 +3,10 @@ ghost use Rattle.std.specs.Prelude.{◌≡◌, ◌≤◌, OnErr, OnOk};
 ghost use Rattle.sph_bins.specs.Bins.{IsStepTick};
 ghost use Rattle.sph_plain.specs.Run.{after, before};
 
+use crate::blocks::blocks_of;
 use crate::gathering::gather;
-use crate::preparing::prepare_with;
+use crate::preparing::stage_of;
+use qs_core::Work;
 use qs_run::run_graph;
 use sph_deck::Deck;
 use sph_edge::Gate;
@@ -12,6 +14,12 @@ use sph_num::{Particle, Tables};
 use std::alloc::{AllocError, Global};
 use std::sync::Arc;
 use std::thread::Threads;
+
+/// A further worker takes part for so many tasks: for fewer, starting a thread takes longer than doing them.
+const TASKS_A_WORKER: u32 = 32;
+
+/// A further thread makes blocks for so many leaves: to start a thread takes longer than to make some hundred blocks.
+const LEAVES_A_THREAD: u32 = 1_024;
 
 /// Steps through the graph of tasks, with the kernel's tables that these read.
 #[derive(Debug, Drop)]
@@ -26,8 +34,9 @@ impl GraphSteps {
         Ok(GraphSteps { tables })
     }
 
-    /// One step at tick `t` by so many workers, each of which passes the gate with each task that it claimed: the
-    /// due particles are given their densities, ghosts, forces and kicks. The error is want of memory.
+    /// One step at tick `t` by so many workers, or by fewer where there are few tasks; each passes the gate with each
+    /// task that it claimed. The blocks are made by as many threads, or by fewer where there are few leaves. The due
+    /// particles are given their densities, ghosts, forces and kicks. The error is want of memory.
     pub fn step<R: Threads + Sync, G: Gate>(
         &self,
         rt: &R,
@@ -46,8 +55,11 @@ impl GraphSteps {
         ensures unchanged { OnErr result (particles.new ≡ particles.old) }
     {
         let tables = Arc::try_clone(&self.tables)?;
-        let (stage, blocks) = prepare_with(alloc, tables, deck, particles, t)?;
-        match run_graph(rt, alloc, &stage, blocks, workers, gate) {
+        let stage = stage_of(alloc, tables, deck, particles, t)?;
+        let threads = threads_for(stage.leaves(), workers);
+        let blocks = blocks_of(rt, alloc, &stage, threads)?;
+        let some = workers_for(stage.tasks(), workers);
+        match run_graph(rt, alloc, &stage, blocks, some, gate) {
             Ok(blocks) => {
                 gather(&stage, blocks, particles);
                 Ok(())
@@ -55,6 +67,22 @@ impl GraphSteps {
             Err(_) => Err(AllocError),
         }
     }
+}
+
+/// How many workers do so many tasks, where so many may.
+fn workers_for(tasks: u32, most: u32) -> u32
+    requires { 1 ≤ most }
+    ensures some { 1 ≤ result }
+    ensures most { result ≤ most }
+{
+    most.min(1 + tasks / TASKS_A_WORKER)
+}
+
+/// How many threads make the blocks of so many leaves, where so many may.
+fn threads_for(leaves: u32, most: u32) -> u32
+    ensures { result ≤ most }
+{
+    most.min(1 + leaves / LEAVES_A_THREAD)
 }
 
 /// One step at tick `t`, as `GraphSteps::step`, with tables of its own.

@@ -1,4 +1,5 @@
 //! Pairs of particles, prepared and stepped.
+use crate::blocks::blocks_of;
 use crate::{prepare, step};
 use qs_core::Work;
 use sph_deck::{Deck, read_deck};
@@ -53,6 +54,39 @@ fn makes_a_block_for_each_leaf(rt: HostRuntime) -> Result<(), Fail> {
         let (stage, blocks) = prepare(alloc, &deck, &particles, 0)?;
         assert_eq!(rt; stage.leaves(), leaves);
         assert_eq!(rt; blocks.len(), leaves as usize);
+    }
+    Ok(())
+}
+
+/// Five particles in a row, a smoothing length apart, each in a leaf of its own.
+fn row(alloc: Global) -> Result<Deck, Fail> {
+    let mut text = format!(in alloc; "leaf = 1\n{TOP}")?;
+    for x in [1000_u32, 2024, 3048, 4072, 5096] {
+        let row = format!(in alloc; "[[particle]]\nh = 1024\nx = {x}\n{AT_REST}")?;
+        text.push_str(row.as_str())?;
+    }
+    Ok(read_deck(alloc, text.as_bytes()).ok().ok_or("refused")?)
+}
+
+/// By fewer threads than there are leaves, as many, and more.
+#[test]
+fn threads_make_the_same_blocks(rt: HostRuntime) -> Result<(), Fail> {
+    let alloc = rt.alloc();
+    let deck = row(alloc)?;
+    let particles = start(alloc, &deck)?;
+    let (stage, blocks) = prepare(alloc, &deck, &particles, 0)?;
+    assert_eq!(rt; blocks.len(), 5);
+    for threads in [1, 2, 3, 5, 7] {
+        let made = blocks_of(&rt, alloc, &stage, threads)?;
+        assert_eq!(rt; made.len(), 5, "{threads} threads");
+        for (one, other) in made.iter().zip(blocks.iter()) {
+            assert_eq!(rt; one.leaf, other.leaf, "{threads} threads");
+            assert_eq!(rt;
+                one.members.as_slice(),
+                other.members.as_slice(),
+                "{threads} threads"
+            );
+        }
     }
     Ok(())
 }

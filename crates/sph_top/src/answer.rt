@@ -1,5 +1,5 @@
 //! The top call.
-ghost use Rattle.std.specs.Prelude.{◌≡◌, ◌<◌, ◌≤◌, ◌⊎◌, List, ℕ, length, Some};
+ghost use Rattle.std.specs.Prelude.{◌≡◌, ◌<◌, ◌⊎◌, List, ℕ, Some};
 ghost use Rattle.std.specs.Io.KnownBytes.{Appends};
 ghost use Rattle.sph_deck.specs.FirstFault.{IsFirstFault};
 ghost use Rattle.sph_deck.specs.declared.fault.DeckFault.{DeckFault};
@@ -20,8 +20,9 @@ use std::alloc::Global;
 use std::thread::Threads;
 
 /// All that the program does. It reads the words, then the whole source where the job reads a deck, does the
-/// job, writes the output to `out`, and writes the line of a refusal to `err`. The workers of a run go over
-/// its tasks in as many threads, the calling one among them; all else is done on the calling thread.
+/// job, writes the output to `out`, and writes the line of a refusal to `err`. The workers of a run, or fewer
+/// where a step has few tasks, go over its tasks in as many threads, the calling one among them, and where
+/// there are many leaves some of these make their blocks; all else is done on the calling thread.
 pub fn swiftq<R: Threads + Sync, S: Source, O: Sink, E: Sink, G: Gate>(
     rt: &R,
     alloc: Global,

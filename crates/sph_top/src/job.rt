@@ -2,7 +2,7 @@
 ghost use Rattle.std.specs.Prelude.{◌≡◌, true, false, List};
 ghost use Rattle.std.specs.declared.alloc.Global.{Global};
 ghost use Rattle.std.specs.Prelude.{String};
-ghost use Rattle.sph_top.specs.Answers.{seen, IsAcceptedDeck, IsWithoutOutput, Rests};
+ghost use Rattle.sph_top.specs.Answers.{seen, IsWithoutOutput, Rests};
 ghost use Rattle.sph_top.specs.Words.{NamesJob, reads_deck};
 ghost use Rattle.sph_top.specs.inner.Steps.{Follows, HasNumbers, Writes};
 

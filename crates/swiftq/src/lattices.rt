@@ -3,7 +3,7 @@ use crate::tests::{do_job, do_job_past};
 use sph_edge::{CountGate, MeetGate};
 use sph_snap::{Snapshot, read_stream};
 use sph_top::Status;
-use std::alloc::{AllocError, Global};
+use std::alloc::Global;
 use std::test::Fail;
 use std::thread::Threads;
 

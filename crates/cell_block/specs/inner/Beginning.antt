@@ -2,8 +2,8 @@
 use Rattle.std.specs.Prelude.{ℕ, false, if◌then◌else◌, ℤ, List}
 use Rattle.sph_num.specs.Pull.{Puller, puller}
 use Rattle.sph_num.specs.Totals.{zero_vector}
-use Rattle.cell_block.specs.declared.block.Mark.{Mark}
-use Rattle.cell_block.specs.declared.block.Spot.{Spot}
+use Rattle.cell_block.specs.declared.rows.Mark.{Mark}
+use Rattle.cell_block.specs.declared.rows.Spot.{Spot}
 use Rattle.cell_block.specs.declared.scene.Scene.{Scene}
 use Rattle.cell_block.specs.Scene.{is_due_at, particle_at, place_of}
 

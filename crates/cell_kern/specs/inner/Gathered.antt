@@ -6,7 +6,7 @@ use Rattle.sph_num.specs.Pull.{Puller, puller, pair_factor}
 use Rattle.sph_num.specs.Ranges.{IsMass, IsLength, most_particles}
 use Rattle.sph_num.specs.Space.{IsPlace, dist2, minimal}
 use Rattle.sph_num.specs.Totals.{component, vector_of}
-use Rattle.cell_block.specs.declared.block.Spot.{Spot}
+use Rattle.cell_block.specs.declared.rows.Spot.{Spot}
 use Rattle.cell_kern.specs.declared.members.Member.{Member}
 use Rattle.cell_kern.specs.declared.members.Members.{Members}
 

@@ -5,7 +5,7 @@ use Rattle.sph_num.specs.Force.{ghost_value}
 use Rattle.sph_num.specs.Motion.{IsMomentum}
 use Rattle.sph_num.specs.Pull.{Puller, puller}
 use Rattle.sph_bins.specs.Kick.{kicked_with}
-use Rattle.cell_block.specs.declared.block.Spot.{Spot}
+use Rattle.cell_block.specs.declared.rows.Spot.{Spot}
 use Rattle.cell_block.specs.declared.scene.Scene.{Scene}
 use Rattle.cell_block.specs.Scene.{particle_at, place_of}
 use Rattle.cell_kick.specs.declared.members.Summed.{Summed}

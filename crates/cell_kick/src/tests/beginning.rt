@@ -1,6 +1,5 @@
 //! Blocks of two particles in one leaf, before any task is done on them.
 ghost use Rattle.std.specs.Prelude.{◌≡◌, [], ◌∷◌, false, length, IfOk};
-ghost use Rattle.cell_block.specs.Blocks.{done_of};
 ghost use Rattle.cell_block.specs.Reading.{IsWhole, tasks_of};
 ghost use Rattle.cell_block.specs.Scene.{IsGoodScene};
 ghost use Rattle.cell_kick.specs.inner.OneLeaf.{one_leaf_lines};
@@ -18,7 +17,6 @@ fn only_block(alloc: Global, scene: &Scene) -> Result<Block, AllocError>
     requires no_drift { scene.now.drift ≡ false }
     ensures whole { IfOk result IsWhole }
     ensures tasks { IfOk result (λ block. tasks_of block ≡ 0 ∷ 1 ∷ 2 ∷ 3 ∷ []) }
-    ensures none_done { IfOk result (λ block. done_of block ≡ []) }
 {
     Block::make(alloc, scene, 0)
 }

@@ -1,18 +1,7 @@
--- The leaves of a task as two ranges; what one task asks of the blocks of all leaves, and what it makes of them.
-use Rattle.std.specs.Prelude.{◌≡◌, ℕ, ◌-◌, ◌<◌, ◌≤◌, ◌⊎◌, List, length, get_or}
-use Rattle.std.specs.List.{range_with_len}
+-- What one task asks of the blocks of all leaves, and what it makes of them.
+use Rattle.std.specs.Prelude.{◌≡◌, ℕ, ◌<◌, List, length, get_or}
 use Rattle.qs_core.specs.Shape.{Shape, Touches}
-use Rattle.qs_core.specs.Blocks.{IsAdded, IsReady, first_leaves, second_leaves}
-
--- the leaves of a task's first cell, and of its second, which may be none: one of the ranges ends before the other begins
-pub record AreLeafRanges (shape : Shape) (task from to from' to' : ℕ) : Type 0 where
-  pub rises : from ≤ to
-  pub rises' : from' ≤ to'
-  pub within : to ≤ shape.leaves
-  pub within' : to' ≤ shape.leaves
-  pub apart : (to ≤ from') ⊎ (to' ≤ from)
-  pub leaves : first_leaves shape task ≡ range_with_len from (to - from)
-  pub leaves' : second_leaves shape task ≡ range_with_len from' (to' - from')
+use Rattle.qs_core.specs.Blocks.{IsAdded, IsReady}
 
 module _ {B : Type 0} (shape : Shape) (task : ℕ) (fits : ℕ → B → Type 0) (done : B → List ℕ) where
   -- the blocks of the leaves that the task touches are ready for it

@@ -9,14 +9,20 @@ use Rattle.qs_core.specs.Blocks.{IsReady}
 use Rattle.qs_table.specs.declared.view.Fetched.{Fetched}
 use Rattle.qs_table.specs.declared.view.SeatView.{SeatView}
 use Rattle.qs_table.specs.Claims.{freed_in}
+use Rattle.qs_worker.specs.Claims.{claims_in}
 
--- the notes before are a prefix of those after, and the further ones free no task
-pub record GrewQuietly (before after : List Note) : Type 0 where
+-- the notes before are a prefix of those after, and the further ones free no task and claim these
+pub record GrewClaiming (tasks : List ℕ) (before after : List Note) : Type 0 where
   pub further : List Note
   pub is : after ≡ before ++ further
   pub frees_none : freed_in further ≡ []
+  pub claims : claims_in further ≡ tasks
 
--- the seat keeps its place and its cells, and none of its further notes frees a task
+-- and claim none
+abbrev pub GrewQuietly : List Note → List Note → Type 0
+GrewQuietly before after = GrewClaiming [] before after
+
+-- the seat keeps its place and its cells, and none of its further notes frees or claims a task
 pub record KeptCells (before after : SeatView) : Type 0 where
   pub place : after.place ≡ before.place
   pub chains : after.holds.chains ≡ before.holds.chains

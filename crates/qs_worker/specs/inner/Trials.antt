@@ -1,5 +1,6 @@
 -- What a trial of tasks did to the seat that was lent to it.
-use Rattle.std.specs.Prelude.{◌≡◌, ℕ, ◌<◌, Bool, true, List, ◌∷◌, [], ◌++◌, Option, Some, None, MatchBool, count_by, drop, length}
+use Rattle.std.specs.Prelude.{◌≡◌, ℕ, ◌<◌, Bool, true, false, List, ◌∷◌, [], Option, Some, None, MatchBool, count_by, drop, length}
+use Rattle.std.specs.Option.{option_to_list}
 use Rattle.qs_core.specs.declared.event.Note.{Note}
 use Rattle.qs_core.specs.Shape.{Shape}
 use Rattle.qs_core.specs.Core.{empty_view}
@@ -12,32 +13,33 @@ use Rattle.qs_queues.specs.Views.{with_notes}
 use Rattle.qs_worker.specs.Looks.{Found}
 use Rattle.qs_worker.specs.Refusals.{WasRefused}
 use Rattle.qs_worker.specs.inner.Claimed.{claimed_view}
-use Rattle.qs_worker.specs.inner.Leaves.{GrewQuietly}
+use Rattle.qs_worker.specs.inner.Leaves.{GrewClaiming}
 
 -- the notes since there were others
 abbrev pub since : List Note → List Note → List Note
 since before after = drop (length before) after
 
--- a task was taken: the seat owns just its cells, and runs it with all its leaves and successors left; the notes end with the claim, which is the seat's first of that task
+-- a task was taken, which the seat hadn't claimed before: it owns just the cells, and runs the task with all its leaves and successors left
 pub record HasTaken (shape : Shape) (task : ℕ) (start now : SeatView) : Type 0 where
   pub is_task : task < length shape.tasks
   pub holds : now.holds ≡ claimed_view shape task
   pub new : count_by (is_claim task) start.notes ≡ 0
-  pub front : List Note
-  pub claim : Note
-  pub is : now.notes ≡ start.notes ++ (front ++ claim ∷ [])
-  pub claims : is_claim task claim ≡ true
+
+-- what the try of a task claims
+abbrev pub claimed_by : Bool → ℕ → List ℕ
+claimed_by true task = task ∷ []
+claimed_by false task = []
 
 -- a task was tried: it was taken, or else the seat holds nothing, and the further notes show why it couldn't be claimed
 pub record WasTried (shape : Shape) (task : ℕ) (before : SeatView) (taken : Bool) (after : SeatView) : Type 0 where
   pub place : after.place ≡ before.place
-  pub grown : GrewQuietly before.notes after.notes
+  pub grown : GrewClaiming (claimed_by taken task) before.notes after.notes
   pub outcome : MatchBool taken (HasTaken shape task before after) ((after.holds ≡ empty_view) × WasRefused shape grown.further task)
 
--- what a trial did to the view of its seat, which held nothing at the start: while it has taken nothing the seat holds nothing, and there are just further notes
+-- what a trial did to the view of its seat, which held nothing at the start: its further notes claim just what it has taken, and while that is nothing the seat holds nothing
 pub record IsTrying (shape : Shape) (start now : SeatView) (taken : Option ℕ) : Type 0 where
   pub place : now.place ≡ start.place
-  pub grown : GrewQuietly start.notes now.notes
+  pub grown : GrewClaiming (option_to_list taken) start.notes now.notes
   pub none : taken ≡ None → now.holds ≡ empty_view
   pub some : (task : ℕ) → taken ≡ Some task → HasTaken shape task start now
 

@@ -1,12 +1,8 @@
 -- What the lists of a stage tell of the cells of a tree.
-use Rattle.std.specs.Prelude.{◌≡◌, ℕ, ◌<◌, ⊤, List, [], length, get_or, Option, Some, None}
-use Rattle.cell_block.specs.declared.block.Block.{Block}
-use Rattle.cell_block.specs.Blocks.{done_of}
+use Rattle.std.specs.Prelude.{◌≡◌, ℕ, ◌<◌, ⊤, List, length, get_or, Option, Some, None}
 use Rattle.cell_tree.specs.Tree.{Made, cells_of}
 use Rattle.task_graph.specs.declared.task.Task.{Task}
-use Rattle.sph_step.specs.declared.stage.StagePlan.{StagePlan}
 use Rattle.sph_step.specs.Made.{IsParentOf, IsRangeOf}
-use Rattle.sph_step.specs.Stage.{fits_in}
 
 -- one for each number below the count, of which the fact of that number holds
 pub record AreFilled {X : Type 0} (fact : ℕ → X → Type 0) (count : ℕ) (xs : List X) : Type 0 where
@@ -27,7 +23,3 @@ IsAmongSome cells (Some cell) = cell < cells
 pub record IsAmong (cells : ℕ) (task : Task) : Type 0 where
   pub first : task.first < cells
   pub second : IsAmongSome cells task.second
-
--- the block fits the leaf, and nothing is done on it
-abbrev pub IsFreshAt : StagePlan → ℕ → Block → Type 0
-IsFreshAt plan leaf block = fits_in plan leaf block × (done_of block ≡ [])

@@ -1,12 +1,11 @@
 use Rattle.std.proofs.Common.{◌<◌, List, [], length, get_or, take, flat_map, refl, subst, ap, arith}
 use Rattle.std.proofs.lemmas.List.{get_or_default, take_all}
 use Rattle.std.proofs.lemmas.List.Elements.{All-nil}
-use Rattle.cell_block.specs.declared.block.Block.{Block}
+use Rattle.cell_block.specs.declared.rows.BlockRows.{BlockRows}
 use Rattle.cell_kern.specs.declared.members.Member.{Member}
 use Rattle.cell_kern.specs.inner.Gathered.{IsSound}
 use Rattle.cell_kern.specs.inner.Taking.{IsGiven, rows_in}
-use Rattle.cell_kern.proofs.Apart.{spots_in_box}
-use Rattle.cell_kern.proofs.Range.{all_taken, boxes_after, more_taken, next_taken, none_taken, part_few, part_sound, part_taken, rows_after, rows_sound, same_rows_all, taken_can_all}
+use Rattle.cell_kern.proofs.Range.{all_taken, more_taken, next_taken, none_taken, part_few, part_sound, part_taken, rows_after, rows_sound, same_rows_all, taken_can_all}
 use Rattle.cell_kern.proofs.blocks.add_between.Goals as goal
 
 pub loop-one-init : goal.loop-one-init
@@ -28,14 +27,6 @@ add_with-requires-clause-others c =
     taken_can_all c.args.sums 0 (flat_map rows_in first) (flat_map rows_in (take c.loop-one.one-index first)) 0 c.args.second.now c.loop-one.second c.requires.second
     (rows_sound c.args.sums 0 first c.requires.first) c.requires.first_few (part_sound c.args.sums 0 first c.loop-one.one-index c.requires.first) (part_few first c.loop-one.one-index c.requires.first_few) c.loop-one.invariant.second
 
-pub boxes_of-boxes-requires : goal.boxes_of-boxes-requires
-boxes_of-boxes-requires c = λ k d inside. spots_in_box c.args.sums 0 (get_or c.args.second.now k d) (c.requires.second k d inside)
-
-pub add_with-requires-clause-boxes : goal.add_with-requires-clause-boxes
-add_with-requires-clause-boxes c =
-    let first = c.args.first.now in
-    boxes_after c.args.sums (flat_map rows_in first) (flat_map rows_in (take c.loop-one.one-index first)) 0 c.args.second.now c.loop-one.second c.boxes_of-boxes.result c.loop-one.invariant.second c.boxes_of-boxes.ensures
-
 pub add_with-requires-clause-few : goal.add_with-requires-clause-few
 add_with-requires-clause-few c =
     let first = c.args.first.now in
@@ -55,7 +46,7 @@ loop-one-preserved c =
     let same = rows_after sums (flat_map rows_in first) part 0 second c.loop-one.second c.loop-one.invariant.second in
     record {
       first = next_taken sums whole i first now _ c.add_with.new.one low c.loop-one.invariant.first
-          (λ d. subst (λ (b : Block). IsGiven sums b whole c.add_with.new.one) (get_or_default now i r d (omega arith)) (subst (λ (xs : List Member). IsGiven sums (get_or now i r) xs c.add_with.new.one) same (rw c.deref_mut.ensures.value at c.add_with.ensures.one)))
+          (λ d. subst (λ (b : BlockRows). IsGiven sums b whole c.add_with.new.one) (get_or_default now i r d (omega arith)) (subst (λ (xs : List Member). IsGiven sums (get_or now i r) xs c.add_with.new.one) same (rw c.deref_mut.ensures.value at c.add_with.ensures.one)))
           refl;
       second = more_taken sums (flat_map rows_in first) first i r (get_or now i r) second c.loop-one.second c.add_with.new.others low (same_rows_all sums whole [] i first now i r c.loop-one.invariant.first low)
           c.loop-one.invariant.second (rw c.deref_mut.ensures.value at c.add_with.ensures.others);

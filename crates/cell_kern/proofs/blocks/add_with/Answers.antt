@@ -2,15 +2,13 @@ use Rattle.std.proofs.Common.{ℕ, ◌<◌, ◌≤◌, ◌++◌, List, [], lengt
 use Rattle.std.proofs.lemmas.List.{get_or_default, take_all}
 use Rattle.std.proofs.lemmas.List.Elements.{All-nil}
 use Rattle.sph_num.specs.Ranges.{most_particles}
-use Rattle.cell_block.specs.declared.block.Block.{Block}
+use Rattle.cell_block.specs.declared.rows.BlockRows.{BlockRows}
 use Rattle.cell_kern.specs.declared.blocks.Sums.{Sums}
 use Rattle.cell_kern.specs.declared.members.Member.{Member}
-use Rattle.cell_kern.specs.inner.Extents.{AreWithin, HavePlaces}
 use Rattle.cell_kern.specs.inner.Gathered.{IsSound}
 use Rattle.cell_kern.specs.inner.Taking.{CanTake, CanTakeAll, IsGiven, rows_in}
-use Rattle.cell_kern.proofs.Apart.{spots_in_box}
-use Rattle.cell_kern.proofs.Range.{AreTaken, all_taken, boxes_after, next_taken, none_taken, part_few, part_sound, rows_more, same_rows_all, taken_can_all}
-use Rattle.cell_kern.proofs.Taken.{length-rows_in, same_rows, same_spots, taken_can, taken_more, taken_none}
+use Rattle.cell_kern.proofs.Range.{AreTaken, all_taken, next_taken, none_taken, part_few, part_sound, rows_more, same_rows_all, taken_can_all}
+use Rattle.cell_kern.proofs.Taken.{length-rows_in, same_rows, taken_can, taken_more, taken_none}
 use Rattle.cell_kern.proofs.blocks.add_with.Goals as goal
 
 pub loop-i-init : goal.loop-i-init
@@ -19,15 +17,6 @@ loop-i-init c = record {
   others = none_taken c.args.sums 1 (rows_in c.args.one.now) c.args.others.now c.requires.others;
 }
 
-pub of-extent-requires : goal.of-extent-requires
-of-extent-requires c =
-    subst HavePlaces (sym c.as_slice.ensures.value) (spots_in_box c.args.sums 1 c.args.one.now c.requires.one)
-
-pub add_near-requires-clause-first_extent : goal.add_near-requires-clause-first_extent
-add_near-requires-clause-first_extent c =
-    let same = same_spots c.args.sums c.args.one.now (flat_map rows_in (take c.loop-i.i c.args.others.now)) c.loop-i.one c.loop-i.invariant.one in
-    subst (AreWithin c.of-extent.result) (c.as_slice.ensures.value ∙ sym same) c.of-extent.ensures
-
 pub add_near-requires-clause-first : goal.add_near-requires-clause-first
 add_near-requires-clause-first c =
     let others = c.args.others.now in
@@ -35,19 +24,10 @@ add_near-requires-clause-first c =
     taken_can c.args.sums 1 c.args.one.now (flat_map rows_in (take i others)) c.loop-i.one c.requires.one (part_sound c.args.sums 1 others i c.requires.others) (part_few others i c.requires.few) c.loop-i.invariant.one
 
 -- the others at the start of a turn
-others_can : (sums : Sums) (one : Block) (i : ℕ) (before now : List Block) → CanTake sums 1 one → CanTakeAll sums 1 before → AreTaken sums (rows_in one) [] i before now → CanTakeAll sums 2 now
+others_can : (sums : Sums) (one : BlockRows) (i : ℕ) (before now : List BlockRows) → CanTake sums 1 one → CanTakeAll sums 1 before → AreTaken sums (rows_in one) [] i before now → CanTakeAll sums 2 now
 others_can sums one i before now can all so_far =
     let few : length (rows_in one) ≤ most_particles = omega (arith, length-rows_in sums 1 one can, can.few) in
     taken_can_all sums 1 (rows_in one) [] i before now all can.sound few (All-nil IsSound) (omega arith) so_far
-
-pub box_at-reached-requires-clause-block : goal.box_at-reached-requires-clause-block
-box_at-reached-requires-clause-block c =
-    rw c.deref_mut-other.ensures.value (spots_in_box c.args.sums 2 _ (others_can c.args.sums c.args.one.now c.loop-i.i c.args.others.now c.loop-i.others c.requires.one c.requires.others c.loop-i.invariant.others c.loop-i.i c.index-others-i.result (omega arith)))
-
-pub box_at-reached-requires-clause-boxes : goal.box_at-reached-requires-clause-boxes
-box_at-reached-requires-clause-boxes c =
-    rw c.deref_mut-other.ensures.value
-    (λ extent kept. boxes_after c.args.sums (rows_in c.args.one.now) [] c.loop-i.i c.args.others.now c.loop-i.others c.args.boxes.now c.loop-i.invariant.others c.requires.boxes c.loop-i.i extent c.index-others-i.result kept (omega arith))
 
 pub add_near-requires-clause-second : goal.add_near-requires-clause-second
 add_near-requires-clause-second c =
@@ -68,14 +48,14 @@ loop-i-preserved c =
     record {
       one = subst (λ (xs : List Member). IsGiven sums one xs c.add_near.new.first) total (taken_more sums one c.loop-i.one c.add_near.new.first part (rows_in (get_or now i r)) c.loop-i.invariant.one (rw c.deref_mut-other.ensures.value at c.add_near.ensures.first));
       others = next_taken sums (rows_in one) i olds now _ c.add_near.new.second low c.loop-i.invariant.others
-          (λ d. subst (λ (b : Block). IsGiven sums b (rows_in one) c.add_near.new.second) (get_or_default now i r d (omega arith)) (subst (λ (xs : List Member). IsGiven sums (get_or now i r) xs c.add_near.new.second) back (rw c.deref_mut-other.ensures.value at c.add_near.ensures.second)))
+          (λ d. subst (λ (b : BlockRows). IsGiven sums b (rows_in one) c.add_near.new.second) (get_or_default now i r d (omega arith)) (subst (λ (xs : List Member). IsGiven sums (get_or now i r) xs c.add_near.new.second) back (rw c.deref_mut-other.ensures.value at c.add_near.ensures.second)))
           refl;
     }
 
 pub returns-clause-one : goal.returns-clause-one
 returns-clause-one c =
     let olds = c.args.others.now in
-    subst (λ (bs : List Block). IsGiven c.args.sums c.args.one.now (flat_map rows_in bs) c.loop-i.one) (take_all c.loop-i.i olds (omega arith)) c.loop-i.invariant.one
+    subst (λ (bs : List BlockRows). IsGiven c.args.sums c.args.one.now (flat_map rows_in bs) c.loop-i.one) (take_all c.loop-i.i olds (omega arith)) c.loop-i.invariant.one
 
 pub returns-clause-others : goal.returns-clause-others
 returns-clause-others c =

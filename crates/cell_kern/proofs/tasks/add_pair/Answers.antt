@@ -5,7 +5,7 @@ use Rattle.cell_block.proofs.Others.{others_of_first, others_of_second}
 use Rattle.cell_kern.specs.Tasks.{second_of}
 use Rattle.cell_kern.proofs.Added.{range_added}
 use Rattle.cell_kern.proofs.Enter.{can_take_all, rows_few}
-use Rattle.cell_kern.proofs.Marking.{are_open}
+use Rattle.cell_kern.proofs.Marking.{keep_task}
 use Rattle.cell_kern.proofs.tasks.add_pair.Goals as goal
 
 pub add_between-requires-clause-first : goal.add_between-requires-clause-first
@@ -32,14 +32,14 @@ pub mark_all-requires : goal.mark_all-requires
 mark_all-requires c =
     let scene = c.args._scene.now in
     let line = line_at scene c.args.task in
-    are_open c.args.sums scene c.args.task line.first c.args.first.now _ c.add_between.new.first c.requires.task.number
+    keep_task c.args.sums scene c.args.task line.first c.args.first.now _ c.add_between.new.first c.requires.task.number
     (λ leaf at. either_true (is_in line.first leaf) (is_in_second line.second leaf) (inl at)) c.requires.first_ready c.add_between.ensures.first
 
 pub mark_all-requires-2 : goal.mark_all-requires-2
 mark_all-requires-2 c =
     let scene = c.args._scene.now in
     let line = line_at scene c.args.task in
-    are_open c.args.sums scene c.args.task (second_of line) c.args.second.now _ c.add_between.new.second c.requires.task.number
+    keep_task c.args.sums scene c.args.task (second_of line) c.args.second.now _ c.add_between.new.second c.requires.task.number
     (λ leaf at. either_true (is_in line.first leaf) (is_in_second line.second leaf) (inr (ap (λ o. is_in_second o leaf) c.requires.two_cells ∙ at))) c.requires.second_ready c.add_between.ensures.second
 
 pub returns-clause-first : goal.returns-clause-first

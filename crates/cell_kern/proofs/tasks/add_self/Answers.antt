@@ -4,7 +4,7 @@ use Rattle.cell_block.proofs.Done.{either_true}
 use Rattle.cell_block.proofs.Others.{others_of_one}
 use Rattle.cell_kern.proofs.Added.{range_added}
 use Rattle.cell_kern.proofs.Enter.{can_take_all, rows_few}
-use Rattle.cell_kern.proofs.Marking.{are_open}
+use Rattle.cell_kern.proofs.Marking.{keep_task}
 use Rattle.cell_kern.proofs.tasks.add_self.Goals as goal
 
 pub add_within-requires-clause-blocks : goal.add_within-requires-clause-blocks
@@ -21,7 +21,7 @@ pub mark_all-requires : goal.mark_all-requires
 mark_all-requires c =
     let scene = c.args._scene.now in
     let line = line_at scene c.args.task in
-    are_open c.args.sums scene c.args.task line.first c.args.blocks.now _ c.add_within.new.blocks c.requires.task.number
+    keep_task c.args.sums scene c.args.task line.first c.args.blocks.now _ c.add_within.new.blocks c.requires.task.number
     (λ leaf at. either_true (is_in line.first leaf) (is_in_second line.second leaf) (inl at)) c.requires.ready c.add_within.ensures
 
 pub returns : goal.returns

@@ -10,8 +10,8 @@ pub make_ghosts-requires-clause-dense : goal.make_ghosts-requires-clause-dense
 make_ghosts-requires-clause-dense c =
     rw (c.as_slice.ensures.value, c.as_slice-2.ensures.value, c.as_mut_slice.ensures.value) (dense c.args.scene.now c.args.task c.args.block.now c.requires.scene c.requires.task c.requires.block)
 
-pub mark-requires-clause-kept : goal.mark-requires-clause-kept
-mark-requires-clause-kept c =
+pub mark-requires : goal.mark-requires
+mark-requires c =
     let scene = c.args.scene.now in
     keeps_task scene c.args.task (leaf_of scene c.args.task) c.args.block.now c.requires.task.number (touches_its_leaf scene Ghost c.args.task tt c.requires.scene c.requires.task) c.requires.block.agrees
 

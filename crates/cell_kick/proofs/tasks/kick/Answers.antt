@@ -13,8 +13,8 @@ kick_members-requires-clause-ready c =
     rw c.as_mut_slice.ensures.value
     (can_kick c.args.scene.now c.args.task c.args.block.now _ c.requires.scene c.requires.task c.requires.block (record { spots = c.as_slice.ensures.value; due = c.as_slice-2.ensures.value; forces = c.as_slice-3.ensures.value }))
 
-pub mark-requires-clause-kept : goal.mark-requires-clause-kept
-mark-requires-clause-kept c =
+pub mark-requires : goal.mark-requires
+mark-requires c =
     let scene = c.args.scene.now in
     keeps_task scene c.args.task (leaf_of scene c.args.task) c.args.block.now c.requires.task.number (touches_its_leaf scene Kick c.args.task tt c.requires.scene c.requires.task) c.requires.block.agrees
 

@@ -22,9 +22,10 @@ returns-then-not-try_one-clause-refused g c _ =
 pub invariant_of-self-2 : goal.invariant_of-self-2
 invariant_of-self-2 g c =
     let i = c.self.invariant in
+    let none : c.self.inside.taken ≡ None = ap (λ (v : TrialView _). v.taken) c.self.view_is ∙ c.requires.none in
     let w = c.if-not-try_one.ensures in
     record {
       same = i.same;
       seated = w.seat;
-      trying = takes (g.W.Work.shape c.self.inside.table.now.plan) c.self.inside.start.value.view c.self.inside.seat.now.view c.self.inside.taken i.trying c.args.task c.try_one.new.seat.view w.tried;
+      trying = takes (g.W.Work.shape c.self.inside.table.now.plan) c.self.inside.start.value.view c.self.inside.seat.now.view c.self.inside.taken i.trying c.args.task c.try_one.new.seat.view none w.tried;
     }

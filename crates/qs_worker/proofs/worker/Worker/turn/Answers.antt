@@ -76,7 +76,7 @@ returns-in-None-clause-turned g c =
     let at = goal.at.returns-in-None-clause-turned g c in
     subst (λ (b : WorkerView _). Turned (g.W.Work.shape c.args.table.now.plan) c.args.queues.now Idle b (record { number = c.self.inside.number; lock_seat = c.look-found.new.seat; queue_seat = c.look-found.new.queue_seat; ready = c.push_ready.new.ready.items })) c.self.view_is
     (is_idle (g.W.Work.shape c.args.table.now.plan) c.args.queues.now c.self.inside.number c.self.inside.seat c.self.inside.queue_seat c.self.inside.ready.items _ _ _ c.left.result (pushed g at.After-push_ready) c.left.ensures.loaded
-    c.look-found.result c.look-found.new.seat.view c.look-found.new.queue_seat.view c.look-found.ensures.looked c.look-found.new.seat c.look-found.new.queue_seat refl refl c.in-None.is)
+    c.look-found.result c.look-found.new.seat.view c.look-found.new.queue_seat.view c.look-found.ensures.looked c.look-found.new.seat c.look-found.new.queue_seat refl refl c.in-None.is c.if-left-eq0.false)
 
 pub returns-in-None-clause-ready : goal.returns-in-None-clause-ready
 returns-in-None-clause-ready g c =
@@ -113,7 +113,7 @@ returns-in-Some-clause-turned g c =
     subst (λ (b : WorkerView _). Turned (g.W.Work.shape c.args.table.now.plan) c.args.queues.now (Ran c.in-Some.task) b (record { number = c.self.inside.number; lock_seat = c.do_claimed.new.seat; queue_seat = c.finish_one.new.seat; ready = c.do_claimed.new.ready.items })) c.self.view_is
     (has_run (g.W.Work.shape c.args.table.now.plan) c.args.queues.now c.self.inside.number c.self.inside.seat c.self.inside.queue_seat c.self.inside.ready.items _ _ _ c.left.result (pushed g at.After-push_ready) c.left.ensures.loaded
     c.look-found.result c.look-found.new.seat.view c.look-found.new.queue_seat.view c.look-found.ensures.looked c.in-Some.task c.do_claimed.new.seat c.finish_one.new.seat c.do_claimed.new.ready.items c.in-Some.is c.do_claimed.ensures.done
-    c.finish_one.ensures.one)
+    c.finish_one.ensures.one c.if-left-eq0.false)
 
 pub returns-in-Some-clause-ready : goal.returns-in-Some-clause-ready
 returns-in-Some-clause-ready g c =
