@@ -13,7 +13,7 @@ use std::alloc::{AllocError, Global};
 use std::marker::Model;
 use std::ops::{Deref, DerefMut};
 
-/// A block behind one pointer, so that it is moved as cheaply as a number. Contracts see it as the block.
+/// A block behind one pointer, so that it is moved as cheaply as a number. Contracts see it as its rows.
 #[derive(Debug, Drop)]
 pub struct Block {
     block: Box<BlockRows>,
@@ -55,9 +55,9 @@ impl Block {
         Block::new(alloc, rows)
     }
 
-    /// Puts a block behind a pointer.
+    /// Puts the rows of a leaf behind a pointer.
     fn new(alloc: Global, block: BlockRows) -> Result<Block, AllocError>
-        ensures { IfOk result (λ boxed. boxed ≡ block) }
+        ensures { IfOk result (λ made. made ≡ block) }
     {
         let block = Box::new(alloc, block)?;
         Ok(Block { block })

@@ -64,7 +64,7 @@ impl Extent {
     ghost use Rattle.cell_block.specs.declared.rows.Spot.{Spot};
     ghost use Rattle.cell_block.specs.Extents.{AreApart, AreWithin, HavePlaces, IsWithin};
 
-    /// The least box round some spots, with the greatest of their lengths; of no spots the empty box.
+    /// A box round some spots, with a length that none of theirs exceeds; of no spots the empty box.
     pub fn of(spots: &[Spot]) -> Extent
         requires { HavePlaces spots.now }
         ensures { AreWithin result spots.now }

@@ -145,6 +145,7 @@ module _ (shape : Shape) (start now : SeatView) (taken : Option ℕ) (t : IsTryi
   pub takes : (task : ℕ) (new : SeatView) → taken ≡ None → WasTried shape task now true new → IsTrying shape start new (Some task)
   takes task new nothing w =
       let h = w.outcome in
+      let last = h.front ++ h.claim ∷ [] in
       let old = ap (sum_by (λ (n : Note). cond {A = ℕ} (is_claim task n) 1 0)) t.grown.is in
       let parts = sum_by-append (λ (n : Note). cond {A = ℕ} (is_claim task n) 1 0) start.notes t.grown.further in
       let none = h.new in
@@ -152,6 +153,13 @@ module _ (shape : Shape) (start now : SeatView) (taken : Option ℕ) (t : IsTryi
         is_task = h.is_task;
         holds = h.holds;
         new = omega arith;
+        front = t.grown.further ++ h.front;
+        claim = h.claim;
+        is = h.is
+            ∙ ap (λ (ns : List Note). ns ++ last) t.grown.is
+            ∙ append_assoc start.notes t.grown.further last
+            ∙ ap (λ (ns : List Note). start.notes ++ ns) (sym (append_assoc t.grown.further h.front (h.claim ∷ [])));
+        claims = h.claims;
       } in
       record {
         place = w.place ∙ t.place;
@@ -185,6 +193,10 @@ module _ (shape : Shape) (task : ℕ) (before : SeatView) (none : before.holds �
             is_task = l;
             holds = claimed_is shape task got (got_is shape task before got none steps) claimed e;
             new = new_claim task before.notes front.further claimed.notes note all (claims_it shape task got) (once task);
+            front = front.further;
+            claim = note;
+            is = all;
+            claims = claims_it shape task got;
           };
         }
 

@@ -54,7 +54,7 @@ fn blocks_by<R: Threads + Sync>(
     joined(alloc, scene, parts)
 }
 
-/// The blocks of so many parts of the leaves, each part in a thread of its own.
+/// The blocks of so many parts of the leaves, each part in a thread of its own where one can be made.
 fn parts_by<R: Threads + Sync>(
     rt: &R,
     alloc: Global,

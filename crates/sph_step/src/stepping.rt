@@ -35,8 +35,9 @@ impl GraphSteps {
     }
 
     /// One step at tick `t` by so many workers, or by fewer where there are few tasks; each passes the gate with each
-    /// task that it claimed. The blocks are made by as many threads, or by fewer where there are few leaves. The due
-    /// particles are given their densities, ghosts, forces and kicks. The error is want of memory.
+    /// task that it claimed, and what they leave passes it with the number behind theirs. The blocks are made by as
+    /// many threads, or by fewer where there are few leaves. The due particles are given their densities, ghosts,
+    /// forces and kicks. The error is want of memory.
     pub fn step<R: Threads + Sync, G: Gate>(
         &self,
         rt: &R,

@@ -86,6 +86,12 @@ fn threads_make_the_same_blocks(rt: HostRuntime) -> Result<(), Fail> {
                 other.members.as_slice(),
                 "{threads} threads"
             );
+            assert_eq!(rt;
+                one.particles.as_slice(),
+                other.particles.as_slice(),
+                "{threads} threads"
+            );
+            assert_eq!(rt; one.marks.len(), other.marks.len(), "{threads} threads");
         }
     }
     Ok(())

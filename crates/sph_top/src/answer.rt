@@ -21,8 +21,8 @@ use std::thread::Threads;
 
 /// All that the program does. It reads the words, then the whole source where the job reads a deck, does the
 /// job, writes the output to `out`, and writes the line of a refusal to `err`. The workers of a run, or fewer
-/// where a step has few tasks, go over its tasks in as many threads, the calling one among them, and where
-/// there are many leaves some of these make their blocks; all else is done on the calling thread.
+/// where a step has few tasks, go over its tasks in as many threads, the calling one among them; before that as
+/// many threads at most make the blocks of its leaves; all else is done on the calling thread.
 pub fn swiftq<R: Threads + Sync, S: Source, O: Sink, E: Sink, G: Gate>(
     rt: &R,
     alloc: Global,

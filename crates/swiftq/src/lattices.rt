@@ -115,6 +115,8 @@ fn passes_as_often_as_there_are_tasks(rt: HostRuntime) -> Result<(), Fail> {
         ("run --workers 1", text.as_str(), 200),
         ("plain", text.as_str(), 0),
         ("sample 1 0", "", 20),
+        // Four tasks a step are too few for a second worker.
+        ("sample 1 0 --workers 64", "", 20),
     ] {
         let gate = CountGate::new();
         let run = do_job_past(&rt, alloc, job, text, &gate)?;

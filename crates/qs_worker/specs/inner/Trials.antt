@@ -1,5 +1,5 @@
 -- What a trial of tasks did to the seat that was lent to it.
-use Rattle.std.specs.Prelude.{◌≡◌, ℕ, ◌<◌, Bool, true, false, List, ◌∷◌, [], Option, Some, None, MatchBool, count_by, drop, length}
+use Rattle.std.specs.Prelude.{◌≡◌, ℕ, ◌<◌, Bool, true, false, List, ◌∷◌, [], ◌++◌, Option, Some, None, MatchBool, count_by, drop, length}
 use Rattle.std.specs.Option.{option_to_list}
 use Rattle.qs_core.specs.declared.event.Note.{Note}
 use Rattle.qs_core.specs.Shape.{Shape}
@@ -19,11 +19,15 @@ use Rattle.qs_worker.specs.inner.Leaves.{GrewClaiming}
 abbrev pub since : List Note → List Note → List Note
 since before after = drop (length before) after
 
--- a task was taken, which the seat hadn't claimed before: it owns just the cells, and runs the task with all its leaves and successors left
+-- a task was taken, which the seat hadn't claimed before: it owns just the cells, and runs the task with all its leaves and successors left; the notes end with the claim
 pub record HasTaken (shape : Shape) (task : ℕ) (start now : SeatView) : Type 0 where
   pub is_task : task < length shape.tasks
   pub holds : now.holds ≡ claimed_view shape task
   pub new : count_by (is_claim task) start.notes ≡ 0
+  pub front : List Note
+  pub claim : Note
+  pub is : now.notes ≡ start.notes ++ (front ++ claim ∷ [])
+  pub claims : is_claim task claim ≡ true
 
 -- what the try of a task claims
 abbrev pub claimed_by : Bool → ℕ → List ℕ

@@ -96,11 +96,13 @@ fn turned_beside(
 fn a_task_that_is_held_stays_in_its_queue(rt: HostRuntime) -> Result<(), Fail> {
     let gate = CountGate::new();
     let (table, seat, mut other) = opened_for_two(rt.alloc())?;
-    let (queues, queue_seat, _spare) = queues_for_two(rt.alloc(), 3)?;
+    let (queues, queue_seat, mut spare) = queues_for_two(rt.alloc(), 1)?;
     let mut worker = worker_on(rt.alloc(), &table, &queues, seat, queue_seat)?;
     let answer = turned_beside(&mut worker, &table, &queues, &gate, &mut other);
     assert_eq!(rt; answer, Some(Turn::Idle));
     assert_eq!(rt; gate.passes(), 0);
+    // It stands in the worker's queue, which has room for one.
+    assert_eq!(rt; pushed(&queues, &mut spare, 0, 1), Push::Full);
     assert_eq!(rt; turned(&mut worker, &table, &queues, &gate), Turn::Ran(0));
     assert_eq!(rt; gate.passes(), 1);
     Ok(())
