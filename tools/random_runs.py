@@ -3,7 +3,9 @@
 
 Each run is of a generated lattice of side 2 to MOST with random bins, leaves, pairs and slack, by 1 to 64 workers, on one,
 two or all of the machine's processors in turn; what `run` writes has to be what `plain` writes. A run that takes more than
-300 seconds counts as one that doesn't end. Prints each run that differs, and a line at the end; then the status is 1.
+300 seconds counts as one that doesn't end. A step takes one worker, and one more for each 32 tasks, up to the number that is
+asked for: the line at the end says how many a first step took in half of the runs. Prints each run that differs; then the
+status is 1.
 """
 import argparse
 import os
@@ -15,6 +17,7 @@ import time
 
 ROOT = os.path.join(os.path.dirname(os.path.abspath(__file__)), "..")
 LONGEST = 300
+TASKS_A_WORKER = 32
 
 
 def deck_of(program, side, seed, changes):
@@ -37,7 +40,7 @@ def random_changes(pick):
         "every": every,
         "bin_min": low,
         "bin_max": high,
-        "leaf": pick.choice([1, 2, 4, 8, 16, 64, 256]),
+        "leaf": pick.choice([1, 1, 2, 2, 4, 4, 8, 16, 256]),
         "pairs": pick.choice([1, 16, 256, 4096, 65536, 1 << 30]),
         "slack": pick.choice([0, 0, 1, 1024, 65535]),
     }
@@ -55,31 +58,39 @@ def ran(words, deck, processors):
     return done.stdout, done.returncode, time.perf_counter() - begun
 
 
+def workers_of(program, deck, workers):
+    """How many workers the first step takes, of so many."""
+    text = subprocess.run([program, "tree"], input=deck, stdout=subprocess.PIPE, check=True).stdout.decode()
+    tasks = sum(int(count) for count in re.findall(r"(?:density|ghost|force|kick) (\d+)", text))
+    return min(workers, 1 + tasks // TASKS_A_WORKER)
+
+
 def main():
     words = argparse.ArgumentParser(description=__doc__.splitlines()[0])
     words.add_argument("--program", default=os.path.join(ROOT, "crates/swiftq/out/swiftq"))
     words.add_argument("--runs", type=int, default=510)
     words.add_argument("--seed", type=int, default=1)
-    words.add_argument("--side", type=int, default=10)
+    words.add_argument("--side", type=int, default=14)
     given = words.parse_args()
     if given.side < 2 or not os.access(given.program, os.X_OK):
         words.error("MOST is 2 at least, and PROGRAM is the built program")
     pick = random.Random(given.seed)
     every = len(os.sched_getaffinity(0))
     counts = [1, min(2, every), every]
-    wrong, seconds, longest = 0, 0.0, 0.0
+    wrong, seconds, longest, taken = 0, 0.0, 0.0, []
     for number in range(given.runs):
-        side, seed = pick.randint(2, given.side), pick.randrange(1 << 32)
+        side, seed = max(pick.randint(2, given.side), pick.randint(2, given.side)), pick.randrange(1 << 32)
         changes, workers = random_changes(pick), pick.randint(1, 64)
         processors = counts[number % 3]
         deck = deck_of(given.program, side, seed, changes)
+        taken.append(workers_of(given.program, deck, workers))
         want, status, _ = ran([given.program, "plain"], deck, every)
         got, got_status, took = ran([given.program, "run", "--workers", str(workers)], deck, processors)
         seconds, longest = seconds + took, max(longest, took)
         if status != 0 or got_status != 0 or got != want:
             wrong += 1
             print(f"side {side} seed {seed} {changes} workers {workers} processors {processors}: status {got_status}, of plain {status}", flush=True)
-    print(f"{given.runs} runs, in turn on {counts[0]}, {counts[1]} and {counts[2]} processors: {wrong} other than plain; {seconds:.0f} s in all, the longest {longest:.1f} s")
+    print(f"{given.runs} runs, in turn on {counts[0]}, {counts[1]} and {counts[2]} processors: {wrong} other than plain; {seconds:.0f} s in all, the longest {longest:.1f} s; half of the first steps took {sorted(taken)[len(taken) // 2]} workers or more, the most {max(taken)}")
     sys.exit(wrong > 0)
 
 
