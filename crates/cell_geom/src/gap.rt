@@ -63,31 +63,3 @@ fn ends(cube: Cube, axis: usize) -> (u32, u32)
     let first = cube.at[axis] << shift;
     (first, first + (1 << shift) - 1)
 }
-
-#[cfg(test)]
-mod tests {
-    use super::*;
-
-    #[test]
-    fn takes_the_nearer_way_round(rt: HostRuntime) {
-        let first = Cube {
-            level: 10,
-            at: [0; 3],
-        };
-        for (x, slack, want) in [
-            (0, 0, 0),
-            (1, 0, 1),
-            (2, 0, 1_050_625),
-            (2, 1, 1_046_529),
-            (1023, 0, 1),
-            (1022, 1, 1_046_529),
-        ] {
-            assert!(rt; x < 1024 && slack <= 1);
-            let other = Cube {
-                level: 10,
-                at: [x, 0, 0],
-            };
-            assert_eq!(rt; gap2(first, other, slack), want, "at {x}, {slack}");
-        }
-    }
-}

@@ -17,7 +17,7 @@ fn any_due(members: &[u32], due: &[bool]) -> bool
 }
 
 /// How many of the leaves before each leaf have a due member, and last how many of all.
-pub fn due_leaves(alloc: Global, tree: &Tree, due: &[bool]) -> Result<Vec<u32>, AllocError>
+pub fn due_counts(alloc: Global, tree: &Tree, due: &[bool]) -> Result<Vec<u32>, AllocError>
     requires { length due.now ≡ length tree.now.points }
     ensures counts { IfOk result (λ before. AreDueBefore tree.now due.now before.items) }
     ensures can { OnOk result (CanBeMade tree.now) }
@@ -44,21 +44,4 @@ pub fn has_due(tree: &Tree, before: &[u32], cell: u32) -> bool
 {
     let (from, to) = tree.leaves_below(cell);
     before[from as usize] < before[to as usize]
-}
-
-#[cfg(test)]
-mod tests {
-    use super::*;
-
-    #[test]
-    fn finds_the_cells_of_a_due_point(rt: HostRuntime) -> Result<(), AllocError> {
-        let points = [[1000, 0, 0], [1512, 0, 0]];
-        let tree = Tree::build(rt.alloc(), &points, &[1024; 2], 1)?;
-        let before = due_leaves(rt.alloc(), &tree, &[false, true])?;
-        assert_eq!(rt; before.as_slice(), [0, 0, 1].as_slice());
-        for cell in 0..tree.cells() {
-            assert_eq!(rt; has_due(&tree, &before, cell), cell != 10);
-        }
-        Ok(())
-    }
 }

@@ -10,5 +10,5 @@ mod node;
 mod octants;
 mod tree;
 
-pub use due::{due_leaves, has_due};
+pub use due::{due_counts, has_due};
 pub use tree::{Span, Tree};

@@ -1,5 +1,5 @@
 -- How often a number occurs in a list.
-use Rattle.std.proofs.Common.{◌≡◌, ℕ, suc, ◌+◌, ◌<◌, ◌≤◌, Bool, not, cond, eqb, List, length, get_or, take, filter, Contains, count_by, refl, ap, subst, inl, inr, arith, add-one, eq-eqb, ne_eqb, ◌-◌, ◌⊎◌}
+use Rattle.std.proofs.Common.{◌≡◌, ℕ, suc, ◌+◌, ◌<◌, ◌≤◌, Bool, not, cond, eqb, List, length, get_or, take, filter, Contains, count_by, refl, ap, subst, inl, inr, arith, add-one, eq-eqb, ne_eqb, ◌⊎◌}
 use Rattle.std.proofs.lemmas.Bool.{cases_eq, cases_lt}
 use Rattle.std.proofs.lemmas.List.Sums.{sum_by_more}
 use Rattle.std.proofs.lemmas.List.Filters.{sum_by-filter_both}

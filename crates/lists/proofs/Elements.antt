@@ -1,5 +1,5 @@
 -- Which elements a list has, and what holds of them.
-use Rattle.std.proofs.Common.{◌≡◌, ℕ, zero, suc, ◌<◌, Bool, true, false, cond, List, [], ◌∷◌, ◌++◌, length, take, drop, map, filter, flat_map, get_or, refl, sym, ap, ◌∙◌, subst, arith, ◌≢◌, ◌+◌, ◌⊎◌, ◌↔◌, slice_index, Contains, inl, inr}
+use Rattle.std.proofs.Common.{◌≡◌, ℕ, zero, suc, ◌<◌, Bool, true, false, cond, List, [], ◌∷◌, ◌++◌, length, take, drop, map, filter, flat_map, get_or, refl, sym, ap, ◌∙◌, subst, arith, ◌≢◌, ◌⊎◌, ◌↔◌, slice_index, Contains, inl, inr}
 use Rattle.std.specs.List.{All}
 use Rattle.std.proofs.Math.Seq.{take-append_seam}
 use Rattle.std.proofs.lemmas.List.Elements.{All-nil, All-cons, All-head, All-tail, All-append, All-filter, All-contains, All-contains_itself, filter_passes, Contains-append_left, Contains-append_right, Contains-get_or, Contains-append_cases}
@@ -100,3 +100,12 @@ Contains-append xs ys x = (Contains-append_cases xs ys x, λ s. elim s [ inl h �
 -- what holds of the first and of the others holds of each
 pub each_cons : {X : Type 0} (P : X → Type 0) (x : X) (xs : List X) → P x → ((y : X) → Contains xs y → P y) → (y : X) → Contains (x ∷ xs) y → P y
 each_cons P x xs p q y h = elim (Contains-cons_cases x xs y h) [ inl e ↦ subst P e p | inr m ↦ q y m ]
+
+-- a list of three from equal elements
+pub three-eq : {X : Type 0} (a b c x y z : X) → a ≡ x → b ≡ y → c ≡ z → a ∷ b ∷ c ∷ [] ≡ x ∷ y ∷ z ∷ []
+three-eq a b c x y z p q r = rw (p, q, r) refl
+
+-- what two functions make of a list on whose elements they agree
+pub map_agree : {X Y : Type 0} (f g : X → Y) (xs : List X) → ((x : X) → Contains xs x → f x ≡ g x) → map f xs ≡ map g xs
+map_agree f g [] same = refl
+map_agree f g (x ∷ xs) same = ap (λ y. y ∷ map f xs) (same x (Contains-head x xs)) ∙ ap (λ ys. g x ∷ ys) (map_agree f g xs (λ y at. same y (Contains-later x xs y at)))

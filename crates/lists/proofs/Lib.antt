@@ -5,3 +5,4 @@ pub mod Counts
 pub mod Ranges
 pub mod Rising
 pub mod Extremes
+pub mod Words

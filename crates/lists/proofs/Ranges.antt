@@ -1,5 +1,5 @@
 -- Ranges of numbers.
-use Rattle.std.proofs.Common.{◌≡◌, ◌≢◌, ℕ, zero, suc, ◌+◌, ◌-◌, ◌<◌, ◌≤◌, cond, eqb, List, [], ◌∷◌, length, get_or, sum_by, count_by, Contains, refl, sym, ap, ◌∙◌, subst, inl, inr, arith, ◌++◌, append_assoc, add-one, map}
+use Rattle.std.proofs.Common.{◌≡◌, ◌≢◌, ℕ, Bool, true, false, filter, zero, suc, ◌+◌, ◌-◌, ◌<◌, ◌≤◌, cond, eqb, List, [], ◌∷◌, length, get_or, sum_by, count_by, Contains, refl, sym, ap, ◌∙◌, subst, inl, inr, arith, ◌++◌, append_assoc, map}
 use Rattle.std.specs.List.{range_with_len, flat_map}
 use Rattle.std.proofs.lemmas.Bool.{cases_eq, eq-eqb, ne_eqb}
 use Rattle.std.proofs.lemmas.List.FromFn.{length-range_with_len, get_or-range_with_len}
@@ -9,6 +9,7 @@ use Rattle.lists.proofs.Sums.{share-le}
 use Rattle.std.specs.List.Sorted.{IsStrictlyIncreasing}
 use Rattle.std.proofs.lemmas.List.{append-nil, get_or-map, length-map, get_or_default, same_lists}
 use Rattle.std.proofs.lemmas.List.Concat.{flat_map-append}
+use Rattle.std.proofs.lemmas.List.Elements.{filter-append}
 
 -- the numbers of a range lie in it
 pub range-within : (a n x : ℕ) → Contains (range_with_len a n) x → (a ≤ x) × (x < a + n)
@@ -155,3 +156,16 @@ sum_by-places f d g (x ∷ xs) start same =
 -- a part of a range is at most the sum
 pub part-le-range : (f : ℕ → ℕ) (i n : ℕ) → i < n → f i ≤ sum_by f (range_with_len 0 n)
 part-le-range f i n l = share-le f (range_with_len 0 n) i (Contains-range 0 n i (omega arith) (omega arith))
+
+-- the numbers up to one more, and those of them that pass
+numbers_push : (n : ℕ) → range_with_len 0 (n + 1) ≡ range_with_len 0 n ++ n ∷ []
+numbers_push n = let none : 0 + n ≡ n = omega arith in range_push 0 n ∙ ap (λ k. range_with_len 0 n ++ k ∷ []) none
+
+pub filter_range_yes : (p : ℕ → Bool) (n : ℕ) → p n ≡ true → filter p (range_with_len 0 (n + 1)) ≡ filter p (range_with_len 0 n) ++ n ∷ []
+filter_range_yes p n passes =
+    ap (filter p) (numbers_push n) ∙ filter-append p (range_with_len 0 n) (n ∷ []) ∙ ap (λ b. filter p (range_with_len 0 n) ++ cond b (n ∷ []) []) passes
+
+pub filter_range_no : (p : ℕ → Bool) (n : ℕ) → p n ≡ false → filter p (range_with_len 0 (n + 1)) ≡ filter p (range_with_len 0 n)
+filter_range_no p n fails =
+    ap (filter p) (numbers_push n) ∙ filter-append p (range_with_len 0 n) (n ∷ []) ∙ ap (λ b. filter p (range_with_len 0 n) ++ cond b (n ∷ []) []) fails
+    ∙ append-nil (filter p (range_with_len 0 n))

@@ -1,5 +1,5 @@
 -- Sums over lists: what bounds them, and sums of sums in either order.
-use Rattle.std.proofs.Common.{◌≡◌, ℕ, suc, ◌+◌, ◌<◌, ◌≤◌, Bool, cond, List, [], ◌∷◌, length, get_or, take, slice_get, Contains, sum_by, count_by, Some, refl, sym, ap, inl, inr, arith, get_or-take, length-take-le, ◌*◌, ◌-◌}
+use Rattle.std.proofs.Common.{◌≡◌, ℕ, suc, ◌+◌, ◌<◌, ◌≤◌, Bool, cond, List, [], ◌∷◌, length, get_or, take, slice_get, Contains, sum_by, count_by, Some, refl, sym, ap, inl, inr, arith, get_or-take, length-take-le, ◌*◌}
 use Rattle.std.proofs.lemmas.Bool.{cases_lt, cases_order}
 use Rattle.std.proofs.lemmas.Option.{slice_get_within, get_or_from_slice_get}
 use Rattle.std.proofs.lemmas.List.Elements.{All-from_get_or}

@@ -6,7 +6,7 @@ use Rattle.std.proofs.lemmas.List.Sums.{count_by-le-length, sum_by-cons}
 use Rattle.lists.proofs.Counts.{count-zero, one_if-le, one_if-other}
 use Rattle.lists.proofs.Elements.{Contains-nil, either, only}
 use Rattle.qs_core.specs.Shape.{Shape, AreApart, IsShape, IsCellShape, IsTaskShape, Precedes, Touches, CellContains, HaveOwnLeaves, ancestors, leaves_of, range_of}
-use Rattle.qs_core.specs.Blocks.{AreAdded, AreReady, IsAdded, IsReady, first_leaves, second_leaves}
+use Rattle.qs_core.specs.Blocks.{AreApplied, AreApplicable, IsApplied, IsApplicable, first_leaves, second_leaves}
 use Rattle.qs_core.specs.Family.{family, task_0, tasks_where}
 use Rattle.qs_core.proofs.Events.{path-up}
 
@@ -165,32 +165,32 @@ leaves_of_second true true (suc (suc (suc task))) l = absurd (omega arith)
 module _ {B : Type 0} (shape : Shape) (fits : ℕ → B → Type 0) (done : B → List ℕ) (task : ℕ) (leaves : List ℕ) (f : (leaf : ℕ) (b : B) → fits leaf b) where
   -- a task that marks its one block is added to it
   pub one_added : (before : List B) (d0 new : B) → length leaves ≤ 1 → 0 < length before → length before ≡ length leaves
-      → ((other : ℕ) → Contains (done new) other ↔ (Contains (done (get_or before 0 d0)) other ⊎ (other ≡ task))) → AreAdded shape task fits done leaves before (set before 0 new)
+      → ((other : ℕ) → Contains (done new) other ↔ (Contains (done (get_or before 0 d0)) other ⊎ (other ≡ task))) → AreApplied shape task fits done leaves before (set before 0 new)
   one_added [] d0 new l some e m = absurd (omega arith)
   one_added (b ∷ c ∷ bs) d0 new l some e m = absurd (omega arith)
   one_added (b ∷ []) d0 new l some e m = record { one_each = refl; added = λ k d h. go k d (omega arith) }
     where
-      go : (k : ℕ) (d : B) → k < 1 → IsAdded task (fits (get_or leaves k 0) (get_or (new ∷ []) k d)) (done (get_or (b ∷ []) k d)) (done (get_or (new ∷ []) k d))
+      go : (k : ℕ) (d : B) → k < 1 → IsApplied task (fits (get_or leaves k 0) (get_or (new ∷ []) k d)) (done (get_or (b ∷ []) k d)) (done (get_or (new ∷ []) k d))
       go zero d h = record { fitting = f (get_or leaves zero 0) new; tasks = m }
       go (suc k) d h = absurd (omega arith)
 
   -- one block is ready as it is
   pub one_ready : (leaf : ℕ) (b : B) → (Contains (done b) task → ⊥) → ((earlier : ℕ) → Precedes shape earlier task → Touches shape earlier leaf → Contains (done b) earlier)
-      → AreReady shape task fits done (leaf ∷ []) (b ∷ [])
+      → AreApplicable shape task fits done (leaf ∷ []) (b ∷ [])
   one_ready leaf b n earlier_done = record { one_each = refl; ready = go }
     where
-      go : (k : ℕ) (d : B) → k < 1 → IsReady shape task (get_or (leaf ∷ []) k 0) (fits (get_or (leaf ∷ []) k 0) (get_or (b ∷ []) k d)) (done (get_or (b ∷ []) k d))
+      go : (k : ℕ) (d : B) → k < 1 → IsApplicable shape task (get_or (leaf ∷ []) k 0) (fits (get_or (leaf ∷ []) k 0) (get_or (b ∷ []) k d)) (done (get_or (b ∷ []) k d))
       go zero d h = record { fitting = f leaf b; not_done = n; before = earlier_done }
       go (suc k) d h = absurd (omega arith)
 
 -- a block on which nothing is done is ready for task 0
-pub fresh_is_ready : {B : Type 0} (fits : ℕ → B → Type 0) (done : B → List ℕ) (b : B) → ((leaf : ℕ) (x : B) → fits leaf x) → done b ≡ [] → AreReady (family true false) 0 fits done (0 ∷ []) (b ∷ [])
+pub fresh_is_ready : {B : Type 0} (fits : ℕ → B → Type 0) (done : B → List ℕ) (b : B) → ((leaf : ℕ) (x : B) → fits leaf x) → done b ≡ [] → AreApplicable (family true false) 0 fits done (0 ∷ []) (b ∷ [])
 fresh_is_ready fits done b f e =
     one_ready (family true false) fits done 0 (0 ∷ []) f 0 b (λ c. Contains-nil 0 (subst (λ xs. Contains xs 0) e c))
     (λ earlier precedes touches. let up = path-up (family true false) earlier precedes.0 0 (family_is true false) precedes.1 in absurd (omega arith))
 
 -- the first leaf is ready for the third task where both are done on it, and the second leaf where none is
-pub both_before : {B : Type 0} (fits : ℕ → B → Type 0) (done : B → List ℕ) (b : B) → ((leaf : ℕ) (x : B) → fits leaf x) → done b ≡ 0 ∷ 1 ∷ [] → AreReady (family true true) 2 fits done (0 ∷ []) (b ∷ [])
+pub both_before : {B : Type 0} (fits : ℕ → B → Type 0) (done : B → List ℕ) (b : B) → ((leaf : ℕ) (x : B) → fits leaf x) → done b ≡ 0 ∷ 1 ∷ [] → AreApplicable (family true true) 2 fits done (0 ∷ []) (b ∷ [])
 both_before fits done b f e =
     one_ready (family true true) fits done 2 (0 ∷ []) f 0 b
     (λ c. elim (either 0 1 2 (subst (λ xs. Contains xs 2) e c)) [ inl h ↦ omega arith | inr h ↦ omega arith ])
@@ -207,7 +207,7 @@ untouched zero l t = let e = only 0 1 t in omega arith
 untouched (suc zero) l t = let e = only 0 1 t in omega arith
 untouched (suc (suc earlier)) l t = omega arith
 
-pub none_before : {B : Type 0} (fits : ℕ → B → Type 0) (done : B → List ℕ) (b : B) → ((leaf : ℕ) (x : B) → fits leaf x) → done b ≡ [] → AreReady (family true true) 2 fits done (1 ∷ []) (b ∷ [])
+pub none_before : {B : Type 0} (fits : ℕ → B → Type 0) (done : B → List ℕ) (b : B) → ((leaf : ℕ) (x : B) → fits leaf x) → done b ≡ [] → AreApplicable (family true true) 2 fits done (1 ∷ []) (b ∷ [])
 none_before fits done b f e =
     one_ready (family true true) fits done 2 (1 ∷ []) f 1 b (λ c. Contains-nil 2 (subst (λ xs. Contains xs 2) e c))
     (λ earlier precedes touches. absurd (untouched earlier (path-up (family true true) earlier precedes.0 2 (family_is true true) precedes.1) touches))

@@ -3,26 +3,26 @@ use Rattle.std.specs.Prelude.{◌≡◌, ℕ, ◌<◌, ◌⊎◌, ◌↔◌, Lis
 use Rattle.qs_core.specs.Shape.{Shape, Precedes, Touches, leaves_below, leaves_of_other, task_at}
 
 -- a block of a leaf with the tasks that are done on it: it fits, hasn't the task done, and has done every task before it that touches the leaf
-pub record IsReady (shape : Shape) (task leaf : ℕ) (fits : Type 0) (done : List ℕ) : Type 0 where
+pub record IsApplicable (shape : Shape) (task leaf : ℕ) (fits : Type 0) (done : List ℕ) : Type 0 where
   pub fitting : fits
   pub not_done : Contains done task → ⊥
   pub before : (earlier : ℕ) → Precedes shape earlier task → Touches shape earlier leaf → Contains done earlier
 
 -- the task was done beside those before
-pub record IsAdded (task : ℕ) (fits : Type 0) (before after : List ℕ) : Type 0 where
+pub record IsApplied (task : ℕ) (fits : Type 0) (before after : List ℕ) : Type 0 where
   pub fitting : fits
   pub tasks : (t : ℕ) → (Contains after t ↔ (Contains before t ⊎ (t ≡ task)))
 
 module _ {B : Type 0} (shape : Shape) (task : ℕ) (fits : ℕ → B → Type 0) (done : B → List ℕ) where
   -- the blocks are those of the leaves, in order, and each is ready for the task
-  pub record AreReady (leaves : List ℕ) (blocks : List B) : Type 0 where
+  pub record AreApplicable (leaves : List ℕ) (blocks : List B) : Type 0 where
     pub one_each : length blocks ≡ length leaves
-    pub ready : (k : ℕ) (d : B) → k < length leaves → IsReady shape task (get_or leaves k 0) (fits (get_or leaves k 0) (get_or blocks k d)) (done (get_or blocks k d))
+    pub ready : (k : ℕ) (d : B) → k < length leaves → IsApplicable shape task (get_or leaves k 0) (fits (get_or leaves k 0) (get_or blocks k d)) (done (get_or blocks k d))
 
   -- to each of them the task was added
-  pub record AreAdded (leaves : List ℕ) (before after : List B) : Type 0 where
+  pub record AreApplied (leaves : List ℕ) (before after : List B) : Type 0 where
     pub one_each : length after ≡ length before
-    pub added : (k : ℕ) (d : B) → k < length leaves → IsAdded task (fits (get_or leaves k 0) (get_or after k d)) (done (get_or before k d)) (done (get_or after k d))
+    pub added : (k : ℕ) (d : B) → k < length leaves → IsApplied task (fits (get_or leaves k 0) (get_or after k d)) (done (get_or before k d)) (done (get_or after k d))
 
 -- the leaves of a task's first cell, and of its second
 abbrev pub first_leaves : Shape → ℕ → List ℕ

@@ -1,7 +1,7 @@
 //! What is scheduled: tasks on the blocks of a hierarchy of cells.
 ghost use Rattle.std.specs.Prelude.{◌≡◌, ◌<◌, ℕ, List, length};
 ghost use Rattle.qs_core.specs.Shape.{Shape, IsShape, edges_into, parent_of, range_of, task_at};
-ghost use Rattle.qs_core.specs.Blocks.{AreAdded, AreReady, first_leaves, second_leaves};
+ghost use Rattle.qs_core.specs.Blocks.{AreApplied, AreApplicable, first_leaves, second_leaves};
 
 /// Cells in a hierarchy with the leaves below them, tasks on one cell or two in an order, and what a task
 /// does to the blocks of its leaves. All answers follow from a plan of plain data.
@@ -68,8 +68,8 @@ pub trait Work {
     /// Does a task on the blocks of its first cell's leaves and of its second cell's, in order.
     fn apply(&self, task: u32, first: &mut [Self::Block], second: &mut [Self::Block])
         requires task { task < length (shape (plan self.now)).tasks }
-        requires first { AreReady (shape (plan self.now)) task (fits (plan self.now)) done (first_leaves (shape (plan self.now)) task) first.old }
-        requires second { AreReady (shape (plan self.now)) task (fits (plan self.now)) done (second_leaves (shape (plan self.now)) task) second.old }
-        ensures first { AreAdded (shape (plan self.now)) task (fits (plan self.now)) done (first_leaves (shape (plan self.now)) task) first.old first.new }
-        ensures second { AreAdded (shape (plan self.now)) task (fits (plan self.now)) done (second_leaves (shape (plan self.now)) task) second.old second.new };
+        requires first { AreApplicable (shape (plan self.now)) task (fits (plan self.now)) done (first_leaves (shape (plan self.now)) task) first.old }
+        requires second { AreApplicable (shape (plan self.now)) task (fits (plan self.now)) done (second_leaves (shape (plan self.now)) task) second.old }
+        ensures first { AreApplied (shape (plan self.now)) task (fits (plan self.now)) done (first_leaves (shape (plan self.now)) task) first.old first.new }
+        ensures second { AreApplied (shape (plan self.now)) task (fits (plan self.now)) done (second_leaves (shape (plan self.now)) task) second.old second.new };
 }

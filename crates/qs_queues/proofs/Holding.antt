@@ -10,7 +10,7 @@ use Rattle.qs_queues.specs.declared.view.QueueNote.TheVariants.{Locked, Unlocked
 use Rattle.qs_queues.specs.declared.view.QueueView.{QueueView}
 use Rattle.qs_queues.specs.Calls.{hold_notes}
 use Rattle.qs_queues.specs.Rule.{IsRightHeap}
-use Rattle.qs_queues.specs.Seats.{IsSeatOf, QueuesView, TokenView}
+use Rattle.qs_queues.specs.Seats.{IsQueueSeatOf, QueuesView, QueueTokenView}
 use Rattle.qs_queues.specs.Views.{with_note, with_notes}
 use Rattle.qs_queues.specs.inner.Holds.{HasTaken}
 use Rattle.qs_queues.specs.inner.Plays.{Mine}
@@ -46,8 +46,8 @@ still_right queue m0 m2 heap heap' t right =
     subst (λ (m : Mine). IsRightHeap m.0.room m.0.tasks heap') (sym t.after) right
 
 -- further notes leave the seat with its queues
-pub still_seated : (queues : QueuesView) (seat : TokenView) (id : TableId) (view : QueueView) (further : List QueueNote) → IsSeatOf queues seat → id ≡ seat.id → view ≡ with_notes seat.view further
-    → IsSeatOf queues (record { id = id; view = view })
+pub still_seated : (queues : QueuesView) (seat : QueueTokenView) (id : TableId) (view : QueueView) (further : List QueueNote) → IsQueueSeatOf queues seat → id ≡ seat.id → view ≡ with_notes seat.view further
+    → IsQueueSeatOf queues (record { id = id; view = view })
 still_seated queues seat id view further s e f = record {
   same = e ∙ s.same;
   room_is = ap (λ (v : QueueView). v.room) f ∙ s.room_is;

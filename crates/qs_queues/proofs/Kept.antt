@@ -18,7 +18,7 @@ use Rattle.qs_queues.specs.declared.view.QueueNote.{QueueNote}
 use Rattle.qs_queues.specs.declared.view.QueueNote.TheVariants.{Locked, Unlocked, Loaded}
 use Rattle.qs_queues.specs.declared.view.QueueView.{QueueView}
 use Rattle.qs_queues.specs.Views.{with_less, with_note}
-use Rattle.qs_queues.specs.Rule.{Fits, Hold, IsChain, IsFree, IsHeld, IsRightHeap, ShowsQueues, holders_of, holds_one, is_unlock, last_left, unlocks_of}
+use Rattle.qs_queues.specs.Rule.{Fits, Hold, IsChain, IsQueueFree, IsHeld, IsRightHeap, ShowsQueues, holders_of, holds_one, is_unlock, last_left, unlocks_of}
 use Rattle.qs_queues.specs.inner.Plays.{HasLocked, loaded, locked, subtracted, unlocked}
 use Rattle.qs_queues.proofs.Elems.{elem_from_get, get_from_elem, sum_set}
 use Rattle.qs_queues.proofs.Histories.{chain_more, held_counts, last_here, last_more, other_counts, right_by}
@@ -207,7 +207,7 @@ module _ (queues room tasks : ℕ) where
         ];
         free = λ q l z. elim (cases_eq q queue) [
           | inl e ↦
-              subst (IsFree room tasks longer_history after.homes) (sym e)
+              subst (IsQueueFree room tasks longer_history after.homes) (sym e)
               (record {
                 heap = heap;
                 right = right;
@@ -270,7 +270,7 @@ module _ (queues room tasks : ℕ) where
         pub none_holds : holders_of queue s.views ≡ 0
         none_holds = sym (rule.words queue is_queue) ∙ zero_seen
 
-        abbrev pub home : IsFree room tasks rule.history s.homes queue
+        abbrev pub home : IsQueueFree room tasks rule.history s.homes queue
         home = rule.free queue is_queue none_holds
 
         abbrev pub taken : Held

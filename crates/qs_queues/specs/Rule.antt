@@ -63,7 +63,7 @@ pub record IsHeld (queues : ℕ) (history : ℕ → List Hold) (held : Held) : T
   pub found : held.found ≡ last_left [] (history held.queue)
 
 -- a free queue has its heap at home, with what its last hold left behind
-pub record IsFree (room tasks : ℕ) (history : ℕ → List Hold) (homes : List (maybe.Option (Option Heap))) (queue : ℕ) : Type 0 where
+pub record IsQueueFree (room tasks : ℕ) (history : ℕ → List Hold) (homes : List (maybe.Option (Option Heap))) (queue : ℕ) : Type 0 where
   pub heap : Heap
   pub at : get_elem? homes queue ≡ some (some (Some heap))
   pub entries : heap.entries ≡ last_left [] (history queue)
@@ -83,7 +83,7 @@ pub record ShowsQueues (queues room tasks : ℕ) (s : State (Option Heap) QueueV
   pub words : (queue : ℕ) → queue < queues → slice_index s.words (queue + 1) ≡ holders_of queue s.views
   pub one : (queue : ℕ) → holders_of queue s.views ≤ 1
   pub held : (seat : ℕ) (v : QueueView) (h : Held) → get_elem? s.views seat ≡ some v → v.held ≡ Some h → IsHeld queues history h
-  pub free : (queue : ℕ) → queue < queues → holders_of queue s.views ≡ 0 → IsFree room tasks history s.homes queue
+  pub free : (queue : ℕ) → queue < queues → holders_of queue s.views ≡ 0 → IsQueueFree room tasks history s.homes queue
   pub limits : (seat : ℕ) (v : QueueView) → get_elem? s.views seat ≡ some v → (v.room ≡ room) × (v.tasks ≡ tasks)
   -- the tasks left are those at the start less one for each subtraction, by 64 bits
   pub left : (slice_index s.words 0 + sum_by (λ (v : QueueView). v.subtractions) s.views) % 2 ^ 64 ≡ tasks % 2 ^ 64

@@ -12,17 +12,17 @@ pub record QueuesView : Type 0 where
   pub tasks : ℕ
 
 -- a token: the name of its queues, and what the seat knows
-pub record TokenView : Type 0 where
+pub record QueueTokenView : Type 0 where
   pub id : TableId
   pub view : QueueView
 
 -- the token is of a seat of these queues
-pub record IsSeatOf (queues : QueuesView) (seat : TokenView) : Type 0 where
+pub record IsQueueSeatOf (queues : QueuesView) (seat : QueueTokenView) : Type 0 where
   pub same : seat.id ≡ queues.id
   pub room_is : seat.view.room ≡ queues.room
   pub tasks_are : seat.view.tasks ≡ queues.tasks
 
 -- which has done nothing
-pub record IsNewSeat (queues : QueuesView) (seat : TokenView) : Type 0 where
-  pub of_queues : IsSeatOf queues seat
+pub record IsNewSeat (queues : QueuesView) (seat : QueueTokenView) : Type 0 where
+  pub of_queues : IsQueueSeatOf queues seat
   pub fresh : seat.view ≡ fresh_view queues.room queues.tasks

@@ -2,7 +2,7 @@
 ghost use Rattle.std.specs.Prelude.{◌≡◌, ◌<◌, ◌≤◌, ℕ, [], ◌∷◌, None};
 ghost use Rattle.qs_heap.specs.Entries.{entry_of};
 ghost use Rattle.qs_queues.specs.Calls.{Noted, SaysPush, SaysScan};
-ghost use Rattle.qs_queues.specs.Seats.{IsSeatOf};
+ghost use Rattle.qs_queues.specs.Seats.{IsQueueSeatOf};
 ghost use Rattle.qs_queues.specs.Views.{with_less, with_notes};
 ghost use Rattle.qs_queues.specs.declared.view.QueueNote.TheVariants.{Loaded};
 
@@ -55,10 +55,10 @@ impl Queues {
 
     /// Puts a task with its weight into a queue: by one hold of it, where it wasn't held.
     pub fn push(&self, seat: &mut QueueSeat, queue: u32, weight: u64, task: u32) -> Push
-        requires seat { IsSeatOf self.now seat.old }
+        requires seat { IsQueueSeatOf self.now seat.old }
         requires queue { queue < self.now.queues }
         requires task { task < self.now.tasks }
-        ensures seat { IsSeatOf self.now seat.new }
+        ensures seat { IsQueueSeatOf self.now seat.new }
         ensures pushed { Noted (SaysPush self.now.room queue (entry_of weight task) result) seat.old.view seat.new.view }
     {
         let queue = queue as usize;
@@ -74,11 +74,11 @@ impl Queues {
     /// Tries the tasks of a queue in the order of its list, and takes the first that can be taken: by one hold of it,
     /// where it wasn't held.
     pub fn scan<T: Trial>(&self, seat: &mut QueueSeat, queue: u32, trial: &mut T) -> Scan
-        requires seat { IsSeatOf self.now seat.old }
+        requires seat { IsQueueSeatOf self.now seat.old }
         requires queue { queue < self.now.queues }
         requires none { T.taken trial.old ≡ None }
         requires limit { T.limit trial.old ≡ self.now.tasks }
-        ensures seat { IsSeatOf self.now seat.new }
+        ensures seat { IsQueueSeatOf self.now seat.new }
         ensures scanned { Noted (SaysScan (T.refused trial.new) (T.taken trial.new) queue result) seat.old.view seat.new.view }
 
         // What the trial was made with stays, and what was refused stays so.
@@ -98,8 +98,8 @@ impl Queues {
 
     /// Lowers the number of tasks left by one.
     pub fn finish_one(&self, seat: &mut QueueSeat)
-        requires { IsSeatOf self.now seat.old }
-        ensures seat { IsSeatOf self.now seat.new }
+        requires { IsQueueSeatOf self.now seat.old }
+        ensures seat { IsQueueSeatOf self.now seat.new }
         ensures one { seat.new.view ≡ with_less seat.old.view }
     {
         subtract(&self.table.shared, &mut seat.seat);
@@ -107,8 +107,8 @@ impl Queues {
 
     /// The number of tasks left.
     pub fn left(&self, seat: &mut QueueSeat) -> u64
-        requires { IsSeatOf self.now seat.old }
-        ensures seat { IsSeatOf self.now seat.new }
+        requires { IsQueueSeatOf self.now seat.old }
+        ensures seat { IsQueueSeatOf self.now seat.new }
         ensures loaded { seat.new.view ≡ with_notes seat.old.view (Loaded result ∷ []) }
     {
         load(&self.table.shared, &mut seat.seat)

@@ -10,9 +10,9 @@ pub struct QueueSeat {
 
 impl Model for QueueSeat {
     ghost use Rattle.std.specs.Prelude.{[], ◌≡◌, None};
-    ghost use Rattle.qs_queues.specs.Seats.{TokenView};
+    ghost use Rattle.qs_queues.specs.Seats.{QueueTokenView};
 
-    ghost Value = { TokenView };
+    ghost Value = { QueueTokenView };
 
     ghost view = { λ s. record { id = s.seat.table_id; view = s.seat.me.0 } };
 

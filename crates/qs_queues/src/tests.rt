@@ -1,6 +1,6 @@
 //! Pushes and scans of few queues, by a seat of one thread and by seats of several.
 ghost use Rattle.std.specs.Prelude.{◌≡◌, ◌<◌, ◌≤◌, All, IfOk};
-ghost use Rattle.qs_queues.specs.Seats.{IsNewSeat, IsSeatOf};
+ghost use Rattle.qs_queues.specs.Seats.{IsNewSeat, IsQueueSeatOf};
 
 use crate::{Push, QueueSeat, Queues, Scan};
 use qs_heap::Trial;
@@ -40,10 +40,10 @@ impl Trial for Tries {
 
 /// Scans a queue, and takes any task or none.
 fn scan(queues: &Queues, seat: &mut QueueSeat, queue: u32, tasks: u32, takes: bool) -> Scan
-    requires seat { IsSeatOf queues.now seat.old }
+    requires seat { IsQueueSeatOf queues.now seat.old }
     requires queue { queue < queues.now.queues }
     requires tasks { tasks ≡ queues.now.tasks }
-    ensures { IsSeatOf queues.now seat.new }
+    ensures { IsQueueSeatOf queues.now seat.new }
 {
     let mut trial = Tries {
         tasks,
@@ -63,8 +63,8 @@ fn opened(
 ) -> Result<(Queues, QueueSeat, Vec<QueueSeat>), AllocError>
     requires { (count ≤ 64) × (others < 64) }
     ensures queues { IfOk result (λ q. (q.0.queues ≡ count) × (q.0.tasks ≡ tasks)) }
-    ensures seat { IfOk result (λ q. IsSeatOf q.0 q.1) }
-    ensures others { IfOk result (λ q. All (λ seat. IsSeatOf q.0 seat) q.2.items) }
+    ensures seat { IfOk result (λ q. IsQueueSeatOf q.0 q.1) }
+    ensures others { IfOk result (λ q. All (λ seat. IsQueueSeatOf q.0 seat) q.2.items) }
 {
     let (queues, mut seats) = Queues::new(alloc, count, room, tasks, others + 1)?;
     let seat = last_of(&queues, &mut seats)?;
@@ -74,8 +74,8 @@ fn opened(
 /// Takes the last of some seats.
 fn last_of(queues: &Queues, seats: &mut Vec<QueueSeat>) -> Result<QueueSeat, AllocError>
     requires { All (λ seat. IsNewSeat queues.now seat) seats.old.items }
-    ensures seat { IfOk result (λ seat. IsSeatOf queues.now seat) }
-    ensures others { All (λ seat. IsSeatOf queues.now seat) seats.new.items }
+    ensures seat { IfOk result (λ seat. IsQueueSeatOf queues.now seat) }
+    ensures others { All (λ seat. IsQueueSeatOf queues.now seat) seats.new.items }
 {
     match seats.pop() {
         Some(seat) => Ok(seat),
@@ -108,9 +108,9 @@ fn tasks_left_fall_by_one(rt: HostRuntime) -> Result<(), Fail> {
 
 /// Pushes a task to each of three queues in turn, again and again. The tasks left fall by each that is in.
 fn push_often(queues: &Queues, seat: &mut QueueSeat, from: usize)
-    requires seat { IsSeatOf queues.now seat.old }
+    requires seat { IsQueueSeatOf queues.now seat.old }
     requires limits { (queues.now.queues ≡ 3) × (queues.now.tasks ≡ 100) }
-    ensures { IsSeatOf queues.now seat.new }
+    ensures { IsQueueSeatOf queues.now seat.new }
 {
     for round in 0..1000 {
         let queue = ((from % 3 + round) % 3) as u32;
@@ -122,9 +122,9 @@ fn push_often(queues: &Queues, seat: &mut QueueSeat, from: usize)
 
 /// Takes a task from each of three queues in turn, again and again. The tasks left fall by each that is taken.
 fn take_often(queues: &Queues, seat: &mut QueueSeat, from: usize)
-    requires seat { IsSeatOf queues.now seat.old }
+    requires seat { IsQueueSeatOf queues.now seat.old }
     requires limits { (queues.now.queues ≡ 3) × (queues.now.tasks ≡ 100) }
-    ensures { IsSeatOf queues.now seat.new }
+    ensures { IsQueueSeatOf queues.now seat.new }
 {
     for round in 0..600 {
         let queue = ((from % 3 + round) % 3) as u32;
@@ -136,10 +136,10 @@ fn take_often(queues: &Queues, seat: &mut QueueSeat, from: usize)
 
 /// Takes what is left in a queue, up to so many: how many there were.
 fn drained(queues: &Queues, seat: &mut QueueSeat, queue: u32) -> u64
-    requires seat { IsSeatOf queues.now seat.old }
+    requires seat { IsQueueSeatOf queues.now seat.old }
     requires queue { queue < queues.now.queues }
     requires limits { queues.now.tasks ≡ 100 }
-    ensures { IsSeatOf queues.now seat.new }
+    ensures { IsQueueSeatOf queues.now seat.new }
 {
     let mut count = 0u64;
     for _round in 0..5000 {
@@ -152,17 +152,17 @@ fn drained(queues: &Queues, seat: &mut QueueSeat, queue: u32) -> u64
 
 /// Each seat does so in a thread of its own: it pushes, or it takes.
 fn in_threads<R: Threads + Sync>(rt: &R, queues: &Queues, seats: &mut [QueueSeat], pushes: bool)
-    requires seats { All (λ seat. IsSeatOf queues.now seat) seats.old }
+    requires seats { All (λ seat. IsQueueSeatOf queues.now seat) seats.old }
     requires limits { (queues.now.queues ≡ 3) × (queues.now.tasks ≡ 100) }
-    ensures { All (λ seat. IsSeatOf queues.now seat) seats.new }
+    ensures { All (λ seat. IsQueueSeatOf queues.now seat) seats.new }
 {
     thread::for_each_mut(
         rt,
         seats,
         4,
         &|number, seat: &mut QueueSeat|
-            requires { IsSeatOf queues.now seat.old × (queues.now.queues ≡ 3) × (queues.now.tasks ≡ 100) }
-            ensures { IsSeatOf queues.entry.now seat.exit.now }
+            requires { IsQueueSeatOf queues.now seat.old × (queues.now.queues ≡ 3) × (queues.now.tasks ≡ 100) }
+            ensures { IsQueueSeatOf queues.entry.now seat.exit.now }
         {
             if pushes {
                 push_often(queues, seat, number);

@@ -7,10 +7,10 @@ ghost use Rattle.qs_run.specs.Blocks.{AreAllDone};
 
 use crate::ordered::finish_rest;
 use qs_core::Work;
+use qs_gate::Gate;
 use qs_queues::Queues;
 use qs_table::{NoRoom, QsSeat, ResTable};
 use qs_worker::{Crew, NoCrew};
-use sph_edge::Gate;
 use std::alloc::Global;
 use std::thread::Threads;
 

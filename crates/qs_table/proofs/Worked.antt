@@ -5,7 +5,7 @@ use Rattle.qs_core.specs.declared.event.Step.TheVariants.{Fetch, Return}
 use Rattle.qs_core.specs.Shape.{Shape, leaves_of, task_at}
 use Rattle.qs_core.specs.Core.{Running, View, empty_view}
 use Rattle.qs_core.specs.Steps.{CanFetch, CanRelease, started, unless_over, view_after, without}
-use Rattle.qs_core.specs.Blocks.{AreAdded, AreReady, first_leaves}
+use Rattle.qs_core.specs.Blocks.{AreApplied, AreApplicable, first_leaves}
 use Rattle.qs_core.specs.Family.{family}
 use Rattle.qs_core.proofs.FamilyShape.{one_ready}
 use Rattle.qs_table.specs.declared.view.SeatView.{SeatView}
@@ -77,21 +77,21 @@ module _ (shape : Shape) (of : shape ≡ three) (task : ℕ) (l : task < 2) wher
 
     module _ {B : Type 0} (fits : ℕ → B → Type 0) (done : B → List ℕ) (all_fit : (leaf : ℕ) (b : B) → fits leaf b) (block : B) (fetched : IsFetched shape fits done v 0 block) where
       -- the task may be done on its block
-      pub first_ready : AreReady three task fits done (first_leaves three task) (block ∷ [])
+      pub first_ready : AreApplicable three task fits done (first_leaves three task) (block ∷ [])
       first_ready =
           let ready = (subst (λ s. IsFetched s fits done v 0 block) of fetched).ready running (ap (λ (w : View). w.running) at_work) in
-          subst (λ (ls : List ℕ). AreReady three task fits done ls (block ∷ [])) (sym (first_leaves_are task l)) (one_ready three fits done task (0 ∷ []) all_fit 0 block ready.not_done ready.before)
+          subst (λ (ls : List ℕ). AreApplicable three task fits done ls (block ∷ [])) (sym (first_leaves_are task l)) (one_ready three fits done task (0 ∷ []) all_fit 0 block ready.not_done ready.before)
 
       module _ (w : SeatView) (out : w ≡ knows_fetched shape v 0 (done block) None) where
         out_holds : w.holds ≡ record (owns_two (Some running)) { out = 0 ∷ [] }
         out_holds = ap (λ (x : SeatView). x.holds) out ∙ ap (λ (x : View). view_after shape x (Fetch 0) 0) at_work
 
         -- and then be brought back
-        pub brings : (after : List B) (d : B) → AreAdded three task fits done (first_leaves three task) (block ∷ []) after → IsBrought fits done w 0 (slice_index_or after 0 d)
+        pub brings : (after : List B) (d : B) → AreApplied three task fits done (first_leaves three task) (block ∷ []) after → IsBrought fits done w 0 (slice_index_or after 0 d)
         brings after d added =
             let one : 0 < length (first_leaves three task) = let many = ap length (first_leaves_are task l) in omega arith in
             let block' = slice_index_or after 0 d in
-            let new = (subst (AreAdded three task fits done (first_leaves three task) (block ∷ [])) (only_one after d added.one_each) added).added 0 block one in
+            let new = (subst (AreApplied three task fits done (first_leaves three task) (block ∷ [])) (only_one after d added.one_each) added).added 0 block one in
             let runs : w.holds.running ≡ Some running = ap (λ (x : View). x.running) out_holds in
             record {
               fitting = all_fit 0 block';

@@ -5,7 +5,7 @@ use mathlib.Core.Option.{some}
 use lib.ListN.{get_elem?}
 use Rattle.qs_core.specs.Shape.{Shape}
 use Rattle.qs_core.specs.Core.{Core, Running}
-use Rattle.qs_core.specs.Blocks.{IsReady}
+use Rattle.qs_core.specs.Blocks.{IsApplicable}
 use Rattle.qs_table.specs.declared.view.SeatView.{SeatView}
 use Rattle.qs_table.specs.Rule.{AreDoneOn, IsShown}
 
@@ -28,7 +28,7 @@ RunsTask (Some running) task = running.task ≡ task
 pub record IsFetched {B : Type 0} (shape : Shape) (fits : ℕ → B → Type 0) (done : B → List ℕ) (v : SeatView) (leaf : ℕ) (block : B) : Type 0 where
   pub fitting : fits leaf block
   pub last : WasHome shape fits done v leaf block
-  pub ready : (running : Running) → v.holds.running ≡ Some running → IsReady shape running.task leaf (fits leaf block) (done block)
+  pub ready : (running : Running) → v.holds.running ≡ Some running → IsApplicable shape running.task leaf (fits leaf block) (done block)
 
 -- a block may come back: it fits, and its done tasks are those at the fetch and, where a task runs, that one
 pub record IsBrought {B : Type 0} (fits : ℕ → B → Type 0) (done : B → List ℕ) (v : SeatView) (leaf : ℕ) (block : B) : Type 0 where

@@ -19,12 +19,12 @@ All-unmap P f (x ∷ xs) all = All-cons (λ x. P (f x)) x xs (All-head P (f x) (
 pub length-lock_seats : {P : Type 0} (workers : List (WorkerView P)) → length (lock_seats_of workers) ≡ length workers
 length-lock_seats workers = length-map workers (λ (w : WorkerView _). w.lock_seat)
 
-pub length-new_crew : {P : Type 0} (shape : Shape) (seats : List (TokenView P)) (queue_seats : List queue.TokenView) (workers : List (WorkerView P)) → IsNewCrew shape seats queue_seats workers → length workers ≡ length seats
+pub length-new_crew : {P : Type 0} (shape : Shape) (seats : List (TokenView P)) (queue_seats : List queue.QueueTokenView) (workers : List (WorkerView P)) → IsNewCrew shape seats queue_seats workers → length workers ≡ length seats
 length-new_crew shape seats queue_seats workers crew = sym (length-lock_seats workers) ∙ ap length crew.on_seats
 
 module _ {P : Type 0} (table : TableView P) (queues : QueuesView) where
   -- a new crew on new seats, one for each queue
-  pub new_crew_is_on : (shape : Shape) (seats : List (TokenView P)) (queue_seats : List queue.TokenView) (workers : List (WorkerView P)) → IsNewCrew shape seats queue_seats workers
+  pub new_crew_is_on : (shape : Shape) (seats : List (TokenView P)) (queue_seats : List queue.QueueTokenView) (workers : List (WorkerView P)) → IsNewCrew shape seats queue_seats workers
       → All (λ s. IsNewSeat table s) seats → All (λ s. queue.IsNewSeat queues s) queue_seats → length seats ≡ queues.queues → All (λ w. IsOn table queues w) workers
   new_crew_is_on shape seats queue_seats workers crew new new' as_many k d within =
       let locks : IsNewSeat table (get_or workers k d).lock_seat = All-unmap (IsNewSeat table) (λ (w : WorkerView P). w.lock_seat) workers (subst (All (IsNewSeat table)) (sym crew.on_seats) new) k d within in

@@ -18,14 +18,14 @@ abbrev pub AreNumbered : {P : Type 0} → ℕ → List (WorkerView P) → Type 0
 AreNumbered {P} first workers = (k : ℕ) (w : WorkerView P) → slice_get workers k ≡ Some w → w.number ≡ first + k
 
 -- of all seats the first are left, and workers with nothing ready stand on the others
-pub record AreMade {P : Type 0} (all : List (TokenView P)) (all_queue : List queue.TokenView) (seats : List (TokenView P)) (queue_seats : List queue.TokenView) (workers : List (WorkerView P)) : Type 0 where
+pub record AreMade {P : Type 0} (all : List (TokenView P)) (all_queue : List queue.QueueTokenView) (seats : List (TokenView P)) (queue_seats : List queue.QueueTokenView) (workers : List (WorkerView P)) : Type 0 where
   pub on_seats : all ≡ seats ++ lock_seats_of workers
   pub on_queue_seats : all_queue ≡ queue_seats ++ queue_seats_of workers
   pub numbered : AreNumbered (length seats) workers
   pub none_ready : All (λ (w : WorkerView P). w.ready ≡ []) workers
 
 module _ {P : Type 0} where
-  pub none_made : (all : List (TokenView P)) (all_queue : List queue.TokenView) → AreMade all all_queue all all_queue []
+  pub none_made : (all : List (TokenView P)) (all_queue : List queue.QueueTokenView) → AreMade all all_queue all all_queue []
   none_made all all_queue = record {
     on_seats = sym (append-nil all);
     on_queue_seats = sym (append-nil all_queue);
@@ -38,18 +38,18 @@ module _ {P : Type 0} where
   numbered_more first worker workers is rest (suc k) w e = let next = rest k w e in omega (arith, next)
 
   -- one more, on the last seats that are left
-  pub one_made : (all : List (TokenView P)) (all_queue : List queue.TokenView) (seats seats' : List (TokenView P)) (queue_seats queue_seats' : List queue.TokenView) (workers : List (WorkerView P)) (worker : WorkerView P)
+  pub one_made : (all : List (TokenView P)) (all_queue : List queue.QueueTokenView) (seats seats' : List (TokenView P)) (queue_seats queue_seats' : List queue.QueueTokenView) (workers : List (WorkerView P)) (worker : WorkerView P)
       → AreMade all all_queue seats queue_seats workers → seats ≡ seats' ++ worker.lock_seat ∷ [] → queue_seats ≡ queue_seats' ++ worker.queue_seat ∷ [] → worker.number ≡ length seats' → worker.ready ≡ []
       → AreMade all all_queue seats' queue_seats' (worker ∷ workers)
   one_made all all_queue seats seats' queue_seats queue_seats' workers worker made last last' number none = record {
     on_seats = made.on_seats ∙ ap (λ (ss : List (TokenView P)). ss ++ lock_seats_of workers) last ∙ append_assoc seats' (worker.lock_seat ∷ []) (lock_seats_of workers);
-    on_queue_seats = made.on_queue_seats ∙ ap (λ (ss : List queue.TokenView). ss ++ queue_seats_of workers) last' ∙ append_assoc queue_seats' (worker.queue_seat ∷ []) (queue_seats_of workers);
+    on_queue_seats = made.on_queue_seats ∙ ap (λ (ss : List queue.QueueTokenView). ss ++ queue_seats_of workers) last' ∙ append_assoc queue_seats' (worker.queue_seat ∷ []) (queue_seats_of workers);
     numbered = numbered_more (length seats') worker workers number (subst (λ (n : ℕ). AreNumbered n workers) (ap length last ∙ length_push seats' worker.lock_seat) made.numbered);
     none_ready = All-cons (λ (w : WorkerView P). w.ready ≡ []) worker workers none made.none_ready;
   }
 
   -- where one can't be made the seats come back
-  pub all_back : (all : List (TokenView P)) (all_queue : List queue.TokenView) (seats seats' : List (TokenView P)) (queue_seats : List queue.TokenView) (workers : List (WorkerView P)) (seat : TokenView P) (pushed back : List (TokenView P))
+  pub all_back : (all : List (TokenView P)) (all_queue : List queue.QueueTokenView) (seats seats' : List (TokenView P)) (queue_seats : List queue.QueueTokenView) (workers : List (WorkerView P)) (seat : TokenView P) (pushed back : List (TokenView P))
       → AreMade all all_queue seats queue_seats (reverse workers) → seats ≡ seats' ++ seat ∷ [] → pushed ≡ seats' ++ seat ∷ [] → back ≡ pushed ++ reverse (lock_seats_of workers) → back ≡ all
   all_back all all_queue seats seats' queue_seats workers seat pushed back made last more is =
       is
@@ -58,12 +58,12 @@ module _ {P : Type 0} where
       ∙ sym made.on_seats
 
   -- where none is left
-  module _ (all : List (TokenView P)) (all_queue : List queue.TokenView) (seats : List (TokenView P)) (queue_seats : List queue.TokenView) (workers : List (WorkerView P)) (made : AreMade all all_queue seats queue_seats workers) (none : seats ≡ []) where
+  module _ (all : List (TokenView P)) (all_queue : List queue.QueueTokenView) (seats : List (TokenView P)) (queue_seats : List queue.QueueTokenView) (workers : List (WorkerView P)) (made : AreMade all all_queue seats queue_seats workers) (none : seats ≡ []) where
     pub made_on : lock_seats_of workers ≡ all
     made_on = sym (made.on_seats ∙ ap (λ (ss : List (TokenView P)). ss ++ lock_seats_of workers) none)
 
     pub made_on_queues : length queue_seats ≡ length seats → queue_seats_of workers ≡ all_queue
-    made_on_queues as_many = sym (made.on_queue_seats ∙ ap (λ (ss : List queue.TokenView). ss ++ queue_seats_of workers) (nil_from_length queue_seats (as_many ∙ ap length none)))
+    made_on_queues as_many = sym (made.on_queue_seats ∙ ap (λ (ss : List queue.QueueTokenView). ss ++ queue_seats_of workers) (nil_from_length queue_seats (as_many ∙ ap length none)))
 
     pub made_planned : (plan : P) → All (λ s. s.plan ≡ Some plan) all → All (λ w. w.lock_seat.plan ≡ Some plan) workers
     made_planned plan planned = All-unmap (λ (s : TokenView P). s.plan ≡ Some plan) (λ (w : WorkerView P). w.lock_seat) workers (subst (All (λ (s : TokenView P). s.plan ≡ Some plan)) (sym made_on) planned)
@@ -91,7 +91,7 @@ module _ {P : Type 0} (shape : Shape) (before after : List (WorkerView P)) (shar
       (v, is, same_Some w (record v { ready = share k }) (sym e ∙ shared.each k v is))
 
   -- a crew was made
-  pub crew_made : (all : List (TokenView P)) (all_queue : List queue.TokenView) (seats : List (TokenView P)) (queue_seats : List queue.TokenView) → AreMade all all_queue seats queue_seats before → seats ≡ [] → length queue_seats ≡ length seats
+  pub crew_made : (all : List (TokenView P)) (all_queue : List queue.QueueTokenView) (seats : List (TokenView P)) (queue_seats : List queue.QueueTokenView) → AreMade all all_queue seats queue_seats before → seats ≡ [] → length queue_seats ≡ length seats
       → IsNewCrew shape all all_queue after
   crew_made all all_queue seats queue_seats made none as_many =
       let on = made_on all all_queue seats queue_seats before made none in

@@ -36,16 +36,16 @@ module _ {P : Type 0} (table : TableView P) where
       let of = subst (All (λ s. IsSeatOf table s)) (sym are) (lock_seats_are_on table queues workers on) in λ k d l. idle_at_rest (get_or seats k d) (of k d l) (rest k d l)
 
   -- a worker that was made with the number of a queue
-  pub made_is_on : (queues : QueuesView) (number : ℕ) (seat : TokenView P) (queue_seat : queue.TokenView) (made : WorkerView P) → IsNewSeat table seat → queue.IsSeatOf queues queue_seat → number < queues.queues
+  pub made_is_on : (queues : QueuesView) (number : ℕ) (seat : TokenView P) (queue_seat : queue.QueueTokenView) (made : WorkerView P) → IsNewSeat table seat → queue.IsQueueSeatOf queues queue_seat → number < queues.queues
       → made ≡ record { number = number; lock_seat = seat; queue_seat = queue_seat; ready = [] } → IsOn table queues made
   made_is_on queues number seat queue_seat made new of low is = subst (IsOn table queues) (sym is) (record { lock_seat = new.of_table; queue_seat = of; number = low })
 
   -- one that was made with the number 0 and got a task
-  pub one_is_on : (queues : QueuesView) (seat : TokenView P) (queue_seat : queue.TokenView) (made worker : WorkerView P) → IsNewSeat table seat → queue.IsSeatOf queues queue_seat → 1 ≤ queues.queues
+  pub one_is_on : (queues : QueuesView) (seat : TokenView P) (queue_seat : queue.QueueTokenView) (made worker : WorkerView P) → IsNewSeat table seat → queue.IsQueueSeatOf queues queue_seat → 1 ≤ queues.queues
       → made ≡ record { number = 0; lock_seat = seat; queue_seat = queue_seat; ready = [] } → worker ≡ record made { ready = made.ready ++ 0 ∷ [] } → IsOn table queues worker
   one_is_on queues seat queue_seat made worker new of some is more =
       subst (IsOn table queues) (sym (more ∙ ap (λ (w : WorkerView P). record w { ready = w.ready ++ 0 ∷ [] }) is)) (record { lock_seat = new.of_table; queue_seat = of; number = omega (arith, some) })
 
   -- one that kept its number
-  pub still_on : (queues : QueuesView) (before after : WorkerView P) → IsOn table queues before → after.number ≡ before.number → IsSeatOf table after.lock_seat → queue.IsSeatOf queues after.queue_seat → IsOn table queues after
+  pub still_on : (queues : QueuesView) (before after : WorkerView P) → IsOn table queues before → after.number ≡ before.number → IsSeatOf table after.lock_seat → queue.IsQueueSeatOf queues after.queue_seat → IsOn table queues after
   still_on queues before after on same of of' = record { lock_seat = of; queue_seat = of'; number = (let low = on.number in omega (arith, same, low)) }

@@ -26,7 +26,7 @@ shape_is plan shape is same = same ∙ ap shape_of is
 first_task : IsFirstTask (family true true) 0
 first_task = record { is_task = omega arith; no_edge = refl }
 
-module _ (table : TableView Family) (seat : TokenView Family) (queue_seat : queue.TokenView) (made : WorkerView Family) (is : made ≡ record { number = 0; lock_seat = seat; queue_seat = queue_seat; ready = [] }) where
+module _ (table : TableView Family) (seat : TokenView Family) (queue_seat : queue.QueueTokenView) (made : WorkerView Family) (is : made ≡ record { number = 0; lock_seat = seat; queue_seat = queue_seat; ready = [] }) where
   pub may_start : IsNewSeat table seat → table.plan ≡ three → (plan : Family) → made.lock_seat.plan ≡ Some plan → IsFirstTask (shape_of plan) 0
   may_start new of = first_of shape_of 0 three made.lock_seat.plan (ap (λ (w : WorkerView Family). w.lock_seat.plan) is ∙ new.of_table.plan_is ∙ ap Some of) first_task
 

@@ -47,7 +47,7 @@ has_looked {P} shape table queues own t before after q0 q1 found is start now sa
 three_more : {X : Type 0} (xs ys zs : List X) (x : X) → xs ++ ys ++ x ∷ [] ++ zs ≡ xs ++ (ys ++ x ∷ zs)
 three_more xs ys zs x = append_assoc (xs ++ ys) (x ∷ []) zs ∙ append_assoc xs ys (x ∷ zs)
 
-module _ {P : Type 0} (shape : Shape) (queues : QueuesView) (number : ℕ) (seat : TokenView P) (token : queue.TokenView) (ready : List ℕ) where
+module _ {P : Type 0} (shape : Shape) (queues : QueuesView) (number : ℕ) (seat : TokenView P) (token : queue.QueueTokenView) (ready : List ℕ) where
   abbrev before : WorkerView P
   before = record { number = number; lock_seat = seat; queue_seat = token; ready = ready }
 
@@ -60,7 +60,7 @@ module _ {P : Type 0} (shape : Shape) (queues : QueuesView) (number : ℕ) (seat
     less_then = ap (λ (v : QueueView). v.subtractions) loaded ∙ ap (λ (v : QueueView). v.subtractions) pushed.is
 
     -- no task was left
-    pub is_over : (token' : queue.TokenView) → token'.view ≡ q2 → left ≡ 0 → seat.view.holds ≡ empty_view → Turned shape queues Over before (record { number = number; lock_seat = seat; queue_seat = token'; ready = kept })
+    pub is_over : (token' : queue.QueueTokenView) → token'.view ≡ q2 → left ≡ 0 → seat.view.holds ≡ empty_view → Turned shape queues Over before (record { number = number; lock_seat = seat; queue_seat = token'; ready = kept })
     is_over token' is none rests = record {
       number = refl;
       place = refl;
@@ -90,7 +90,7 @@ module _ {P : Type 0} (shape : Shape) (queues : QueuesView) (number : ℕ) (seat
       less_looked = ap (λ (v : QueueView). v.subtractions) looked.queue_notes ∙ less_then
 
       -- no task could be claimed
-      pub is_idle : (seat'' : TokenView P) (token' : queue.TokenView) → seat''.view ≡ seat' → token'.view ≡ q3 → found ≡ None → left ≢ 0 → Turned shape queues Idle before (record { number = number; lock_seat = seat''; queue_seat = token'; ready = kept })
+      pub is_idle : (seat'' : TokenView P) (token' : queue.QueueTokenView) → seat''.view ≡ seat' → token'.view ≡ q3 → found ≡ None → left ≢ 0 → Turned shape queues Idle before (record { number = number; lock_seat = seat''; queue_seat = token'; ready = kept })
       is_idle seat'' token' is is' none some_left =
           let t = looked.trying in record {
             number = refl;
@@ -111,7 +111,7 @@ module _ {P : Type 0} (shape : Shape) (queues : QueuesView) (number : ℕ) (seat
           }
 
       -- a task was claimed and done
-      pub has_run : (task : ℕ) (seat'' : TokenView P) (token' : queue.TokenView) (ready' : List ℕ) → found ≡ Some task → HasDone shape task seat' seat''.view kept ready' → token'.view ≡ with_less q3 → left ≢ 0
+      pub has_run : (task : ℕ) (seat'' : TokenView P) (token' : queue.QueueTokenView) (ready' : List ℕ) → found ≡ Some task → HasDone shape task seat' seat''.view kept ready' → token'.view ≡ with_less q3 → left ≢ 0
           → Turned shape queues (Ran task) before (record { number = number; lock_seat = seat''; queue_seat = token'; ready = ready' })
       has_run task seat'' token' ready' some done less some_left =
           let t = looked.trying in

@@ -8,7 +8,7 @@ use Rattle.qs_core.specs.inner.Held.{IsBelowSome}
 use Rattle.qs_core.specs.Shape.{Shape, Touches, leaves_of, task_at}
 use Rattle.qs_core.specs.Core.{Chain, Running, View, empty_view}
 use Rattle.qs_core.specs.Steps.{CanFetch, OwnsAbove, started, unless_over}
-use Rattle.qs_core.specs.Blocks.{AreAdded, AreReady, IsReady, first_leaves, second_leaves}
+use Rattle.qs_core.specs.Blocks.{AreApplied, AreApplicable, IsApplicable, first_leaves, second_leaves}
 use Rattle.qs_core.proofs.Below.{in_range, touches_is}
 use Rattle.qs_table.specs.declared.view.SeatView.{SeatView}
 use Rattle.qs_table.specs.Tries.{owned_chain, with_cells}
@@ -94,23 +94,23 @@ module _ (shape : Shape) (task from to from' to' : ℕ) (are : AreLeafRanges sha
           }
 
       ready_in : (leaves : List ℕ) (low high : ℕ) (blocks : List B) → leaves ≡ range_with_len low (high - low) → low + length blocks ≡ high → ((k : ℕ) (d : B) → k < length blocks → IsOutReady shape fits done two (low + k) (get_or blocks k d))
-          → AreReady shape task fits done leaves blocks
+          → AreApplicable shape task fits done leaves blocks
       ready_in leaves low high blocks is many each =
           let long : length leaves ≡ high - low = ap length is ∙ length-range_with_len low (high - low) in record {
             one_each = omega (arith, long, many);
             ready = λ k d l.
                 let at : get_or leaves k 0 ≡ low + k = ap (λ (ls : List ℕ). get_or ls k 0) is ∙ get_or-range_with_len low (high - low) k 0 (omega (arith, l, long)) in
-                subst (λ (leaf : ℕ). IsReady shape task leaf (fits leaf (get_or blocks k d)) (done (get_or blocks k d))) (sym at) ((each k d (omega (arith, l, long, many))).ready (started shape task) runs);
+                subst (λ (leaf : ℕ). IsApplicable shape task leaf (fits leaf (get_or blocks k d)) (done (get_or blocks k d))) (sym at) ((each k d (omega (arith, l, long, many))).ready (started shape task) runs);
           }
 
-      pub first_ready : AreReady shape task fits done (first_leaves shape task) firsts
+      pub first_ready : AreApplicable shape task fits done (first_leaves shape task) firsts
       first_ready = ready_in (first_leaves shape task) from to firsts are.leaves all first_out
 
-      pub second_ready : AreReady shape task fits done (second_leaves shape task) seconds
+      pub second_ready : AreApplicable shape task fits done (second_leaves shape task) seconds
       second_ready = ready_in (second_leaves shape task) from' to' seconds are.leaves' all' has'.each
 
       worked_in : (leaves : List ℕ) (low high : ℕ) (blocks after : List B) → leaves ≡ range_with_len low (high - low) → low + length blocks ≡ high → ((k : ℕ) (d : B) → k < length blocks → IsOutReady shape fits done two (low + k) (get_or blocks k d))
-          → AreAdded shape task fits done leaves blocks after → (k : ℕ) (d : B) → k < length after → IsWorkedOn fits done task two (low + k) (get_or after k d)
+          → AreApplied shape task fits done leaves blocks after → (k : ℕ) (d : B) → k < length after → IsWorkedOn fits done task two (low + k) (get_or after k d)
       worked_in leaves low high blocks after is many each added k d l =
           let same = added.one_each in
           let long : length leaves ≡ high - low = ap length is ∙ length-range_with_len low (high - low) in
@@ -124,7 +124,7 @@ module _ (shape : Shape) (task from to from' to' : ℕ) (are : AreLeafRanges sha
             tasks = new.tasks;
           }
 
-      module _ (firsts' seconds' : List B) (added : AreAdded shape task fits done (first_leaves shape task) firsts firsts') (added' : AreAdded shape task fits done (second_leaves shape task) seconds seconds') where
+      module _ (firsts' seconds' : List B) (added : AreApplied shape task fits done (first_leaves shape task) firsts firsts') (added' : AreApplied shape task fits done (second_leaves shape task) seconds seconds') where
         leaves_are : leaves_of shape task ≡ first_leaves shape task ++ range_with_len from' (length seconds')
         unfolding leaves_of
         leaves_are =
@@ -193,16 +193,16 @@ quiet a b c d e k l m n = (kept_twice a b e k (kept_twice b c e l (kept_twice c 
 
 -- what is asked of blocks and left of them depends on the plan alone
 pub ready_for : {P B : Type 0} (shape : P → Shape) (fits : P → ℕ → B → Type 0) (done : B → List ℕ) (plan plan' : P) (task : ℕ) (leaves : Shape → ℕ → List ℕ) (blocks : List B) → plan ≡ plan'
-    → AreReady (shape plan') task (fits plan') done (leaves (shape plan') task) blocks → AreReady (shape plan) task (fits plan) done (leaves (shape plan) task) blocks
-ready_for {P} shape fits done plan plan' task leaves blocks same ready = subst (λ (p : P). AreReady (shape p) task (fits p) done (leaves (shape p) task) blocks) (sym same) ready
+    → AreApplicable (shape plan') task (fits plan') done (leaves (shape plan') task) blocks → AreApplicable (shape plan) task (fits plan) done (leaves (shape plan) task) blocks
+ready_for {P} shape fits done plan plan' task leaves blocks same ready = subst (λ (p : P). AreApplicable (shape p) task (fits p) done (leaves (shape p) task) blocks) (sym same) ready
 
 pub added_for : {P B : Type 0} (shape : P → Shape) (fits : P → ℕ → B → Type 0) (done : B → List ℕ) (plan plan' : P) (task : ℕ) (leaves : Shape → ℕ → List ℕ) (blocks after : List B) → plan ≡ plan'
-    → AreAdded (shape plan) task (fits plan) done (leaves (shape plan) task) blocks after → AreAdded (shape plan') task (fits plan') done (leaves (shape plan') task) blocks after
-added_for {P} shape fits done plan plan' task leaves blocks after same added = subst (λ (p : P). AreAdded (shape p) task (fits p) done (leaves (shape p) task) blocks after) same added
+    → AreApplied (shape plan) task (fits plan) done (leaves (shape plan) task) blocks after → AreApplied (shape plan') task (fits plan') done (leaves (shape plan') task) blocks after
+added_for {P} shape fits done plan plan' task leaves blocks after same added = subst (λ (p : P). AreApplied (shape p) task (fits p) done (leaves (shape p) task) blocks after) same added
 
 -- the blocks in their list, after the task was done on all of it as a slice
 pub added_in : {B : Type 0} (shape : Shape) (task : ℕ) (fits : ℕ → B → Type 0) (done : B → List ℕ) (leaves : List ℕ) (blocks seen after : List B) (n : ℕ) → seen ≡ blocks → length seen ≡ n
-    → AreAdded shape task fits done leaves seen after → AreAdded shape task fits done leaves blocks (take n (after ++ drop (length after) blocks))
+    → AreApplied shape task fits done leaves seen after → AreApplied shape task fits done leaves blocks (take n (after ++ drop (length after) blocks))
 added_in shape task fits done leaves blocks seen after n are many added =
     let long = ap length are in
-    subst (λ bs. AreAdded shape task fits done leaves blocks bs) (sym (written_back n blocks after (sym many ∙ long) (added.one_each ∙ long))) (subst (λ bs. AreAdded shape task fits done leaves bs after) are added)
+    subst (λ bs. AreApplied shape task fits done leaves blocks bs) (sym (written_back n blocks after (sym many ∙ long) (added.one_each ∙ long))) (subst (λ bs. AreApplied shape task fits done leaves bs after) are added)

@@ -23,7 +23,7 @@ use Rattle.qs_worker.specs.Refusals.{WasRefused}
 pub record WorkerView (P : Type 0) : Type 0 where
   pub number : ℕ
   pub lock_seat : TokenView P
-  pub queue_seat : queue.TokenView
+  pub queue_seat : queue.QueueTokenView
   pub ready : List ℕ
 
 -- a task with its weight

@@ -1,7 +1,7 @@
 //! A claimed task, from the fetch of its blocks to the release of the tasks that wait for it.
 ghost use Rattle.std.specs.Prelude.{◌≡◌, ◌+◌, ◌<◌, ◌≤◌, ◌⊎◌, ℕ, [], count_by, length, vec_capacity};
 ghost use Rattle.qs_core.specs.Shape.{task_at};
-ghost use Rattle.qs_core.specs.Blocks.{AreAdded, AreReady, first_leaves, second_leaves};
+ghost use Rattle.qs_core.specs.Blocks.{AreApplied, AreApplicable, first_leaves, second_leaves};
 ghost use Rattle.qs_core.specs.Steps.{HasReturned};
 ghost use Rattle.qs_table.specs.Notes.{is_release};
 ghost use Rattle.qs_table.specs.Seats.{IsSeatOf};
@@ -18,10 +18,10 @@ use qs_table::{QsSeat, ResTable};
 /// Does a task on the blocks of a desk.
 fn apply_to<W: Work>(work: &W, desk: &mut Desk<W::Block>, task: u32)
     requires task { task < length (W.shape (W.plan work.now)).tasks }
-    requires first { AreReady (W.shape (W.plan work.now)) task (W.fits (W.plan work.now)) W.done (first_leaves (W.shape (W.plan work.now)) task) desk.old.first.items }
-    requires second { AreReady (W.shape (W.plan work.now)) task (W.fits (W.plan work.now)) W.done (second_leaves (W.shape (W.plan work.now)) task) desk.old.second.items }
-    ensures first { AreAdded (W.shape (W.plan work.now)) task (W.fits (W.plan work.now)) W.done (first_leaves (W.shape (W.plan work.now)) task) desk.old.first.items desk.new.first.items }
-    ensures second { AreAdded (W.shape (W.plan work.now)) task (W.fits (W.plan work.now)) W.done (second_leaves (W.shape (W.plan work.now)) task) desk.old.second.items desk.new.second.items }
+    requires first { AreApplicable (W.shape (W.plan work.now)) task (W.fits (W.plan work.now)) W.done (first_leaves (W.shape (W.plan work.now)) task) desk.old.first.items }
+    requires second { AreApplicable (W.shape (W.plan work.now)) task (W.fits (W.plan work.now)) W.done (second_leaves (W.shape (W.plan work.now)) task) desk.old.second.items }
+    ensures first { AreApplied (W.shape (W.plan work.now)) task (W.fits (W.plan work.now)) W.done (first_leaves (W.shape (W.plan work.now)) task) desk.old.first.items desk.new.first.items }
+    ensures second { AreApplied (W.shape (W.plan work.now)) task (W.fits (W.plan work.now)) W.done (second_leaves (W.shape (W.plan work.now)) task) desk.old.second.items desk.new.second.items }
     ensures room { (vec_capacity desk.new.first ≡ vec_capacity desk.old.first) × (vec_capacity desk.new.second ≡ vec_capacity desk.old.second) }
 {
     work.apply(task, desk.first.as_mut_slice(), desk.second.as_mut_slice());

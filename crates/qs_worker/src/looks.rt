@@ -21,11 +21,11 @@ fn look_round<T: Trial>(
     own: u32,
     trial: &mut T,
 ) -> Option<u32>
-    requires seat { queue.IsSeatOf queues.now seat.old }
+    requires seat { queue.IsQueueSeatOf queues.now seat.old }
     requires own { own < queues.now.queues }
     requires none { T.taken trial.old ≡ None }
     requires limit { T.limit trial.old ≡ queues.now.tasks }
-    ensures seat { queue.IsSeatOf queues.now seat.new }
+    ensures seat { queue.IsQueueSeatOf queues.now seat.new }
     ensures found { Noted (Found (T.refused trial.new) queues.now.queues own result) seat.old.view seat.new.view }
     ensures taken { T.taken trial.new ≡ result }
 
@@ -51,11 +51,11 @@ fn look_with<W: Work>(
     own: u32,
     trial: &mut TaskTrial<W>,
 ) -> Option<u32>
-    requires queue_seat { queue.IsSeatOf queues.now queue_seat.old }
+    requires queue_seat { queue.IsQueueSeatOf queues.now queue_seat.old }
     requires own { own < queues.now.queues }
     requires tasks { queues.now.tasks ≡ length (W.shape trial.old.table.plan).tasks }
     requires none { trial.old.taken ≡ None }
-    ensures queue_seat { queue.IsSeatOf queues.now queue_seat.new }
+    ensures queue_seat { queue.IsQueueSeatOf queues.now queue_seat.new }
     ensures name { trial.new.name ≡ trial.old.name }
     ensures start { (trial.new.start ≡ trial.old.start) × (trial.new.table ≡ trial.old.table) }
     ensures taken { trial.new.taken ≡ result }
@@ -76,11 +76,11 @@ pub(crate) fn look<W: Work>(
     requires work { W.plan work.now ≡ table.now.plan }
     requires seat { IsSeatOf table.now seat.old }
     requires rests { seat.old.view.holds ≡ empty_view }
-    requires queue_seat { queue.IsSeatOf queues.now queue_seat.old }
+    requires queue_seat { queue.IsQueueSeatOf queues.now queue_seat.old }
     requires own { own < queues.now.queues }
     requires tasks { queues.now.tasks ≡ length (W.shape table.now.plan).tasks }
     ensures seat { IsSeatOf table.now seat.new }
-    ensures queue_seat { queue.IsSeatOf queues.now queue_seat.new }
+    ensures queue_seat { queue.IsQueueSeatOf queues.now queue_seat.new }
     ensures looked { HasLooked (W.shape table.now.plan) queues.now.queues own seat.old.view queue_seat.old.view result seat.new.view queue_seat.new.view }
 {
     let mut trial = TaskTrial::new(work, table, seat);

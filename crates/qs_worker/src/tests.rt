@@ -11,9 +11,9 @@ use crate::crew::Crew;
 use crate::turn::Turn;
 use crate::worker::Worker;
 use qs_core::family::{Family, Marks, THREE};
+use qs_gate::CountGate;
 use qs_queues::{QueueSeat, Queues};
 use qs_table::{Closed, QsSeat, ResTable};
-use sph_edge::CountGate;
 use std::alloc::{AllocError, Global};
 use std::process::Abort;
 use std::test::Fail;
@@ -42,7 +42,7 @@ fn worker_on(
 ) -> Result<Worker<Family>, AllocError>
     requires plan { table.now.plan ≡ record { has_tasks = true; has_third = true } }
     requires seat { IsNewSeat table.now seat }
-    requires queue_seat { queue.IsSeatOf queues.now queue_seat }
+    requires queue_seat { queue.IsQueueSeatOf queues.now queue_seat }
     requires queues { 1 ≤ queues.now.queues }
     ensures { IfOk result (λ w. IsOn table.now queues.now w) }
 {

@@ -15,9 +15,9 @@ use crate::looks::look;
 use crate::offers::push_ready;
 use crate::turn::Turn;
 use qs_core::Work;
+use qs_gate::Gate;
 use qs_queues::{QueueSeat, Queues};
 use qs_table::{QsSeat, ResTable};
-use sph_edge::Gate;
 use std::alloc::{AllocError, Global};
 use std::marker::Model;
 use std::thread;
@@ -142,11 +142,11 @@ impl<W: Work> Worker<W> {
     ) -> Turn
         requires work { W.plan work.now ≡ table.now.plan }
         requires seat { IsSeatOf table.now self.old.lock_seat }
-        requires queue_seat { queue.IsSeatOf queues.now self.old.queue_seat }
+        requires queue_seat { queue.IsQueueSeatOf queues.now self.old.queue_seat }
         requires number { self.old.number < queues.now.queues }
         requires tasks { queues.now.tasks ≡ length (W.shape table.now.plan).tasks }
         ensures seat { IsSeatOf table.now self.new.lock_seat }
-        ensures queue_seat { queue.IsSeatOf queues.now self.new.queue_seat }
+        ensures queue_seat { queue.IsQueueSeatOf queues.now self.new.queue_seat }
         ensures turned { Turned (W.shape table.now.plan) queues.now result self.old self.new }
         ensures ready { IsReadyList (W.shape table.now.plan) self.new.lock_seat.view.notes self.new.ready }
     {
@@ -192,11 +192,11 @@ impl<W: Work> Worker<W> {
     pub fn work<G: Gate>(&mut self, work: &W, table: &ResTable<W>, queues: &Queues, gate: &G)
         requires work { W.plan work.now ≡ table.now.plan }
         requires seat { IsSeatOf table.now self.old.lock_seat }
-        requires queue_seat { queue.IsSeatOf queues.now self.old.queue_seat }
+        requires queue_seat { queue.IsQueueSeatOf queues.now self.old.queue_seat }
         requires number { self.old.number < queues.now.queues }
         requires tasks { queues.now.tasks ≡ length (W.shape table.now.plan).tasks }
         ensures seat { IsSeatOf table.now self.new.lock_seat }
-        ensures queue_seat { queue.IsSeatOf queues.now self.new.queue_seat }
+        ensures queue_seat { queue.IsQueueSeatOf queues.now self.new.queue_seat }
         ensures number { self.new.number ≡ self.old.number }
         ensures worked { Worked (W.shape table.now.plan) queues.now 65536 self.old self.new }
         ensures ready { IsReadyList (W.shape table.now.plan) self.new.lock_seat.view.notes self.new.ready }

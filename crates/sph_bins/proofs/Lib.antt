@@ -3,3 +3,4 @@ pub mod BinOf
 pub mod Steps
 pub mod Narrow
 pub mod Vectors
+pub mod Sound

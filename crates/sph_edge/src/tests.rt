@@ -2,8 +2,8 @@
 ghost use Rattle.std.specs.Prelude.{None};
 
 use crate::{
-    CountGate, Failed, Gate, MeetGate, MemorySink, MemorySource, NoGate, ReadEnd, Sink, Source,
-    StdSink, StdSource, read_whole, write_whole,
+    Failed, MemorySink, MemorySource, ReadEnd, Sink, Source, StdSink, StdSource, read_whole,
+    write_whole,
 };
 use std::alloc::{AllocError, Global};
 use std::test::Fail;
@@ -61,31 +61,7 @@ fn works_over_std(rt: HostRuntime) -> Result<(), Fail> {
     let mut sink = StdSink::new(&mut written);
     assert_eq!(rt; write_whole(&mut sink, &bytes), Ok(()));
     assert_eq!(rt; written, bytes);
-    NoGate.pass(0, 0);
     Ok(())
-}
-
-/// No contract can say what a gate counts.
-#[test]
-fn counts_passes_and_those_of_worker_0(rt: HostRuntime) {
-    let gate = CountGate::new();
-    assert_eq!(rt; gate.passes(), 0);
-    assert_eq!(rt; gate.firsts(), 0);
-    for (worker, task) in [(0, 7), (2, 0), (0, 7), (1, 3), (0, 0)] {
-        gate.pass(worker, task);
-    }
-    assert_eq!(rt; gate.passes(), 5);
-    assert_eq!(rt; gate.firsts(), 3);
-}
-
-/// One thread alone can't meet itself: the worker that comes first waits its turns and goes on.
-#[test]
-fn no_two_meet_in_one_thread(rt: HostRuntime) {
-    let gate = MeetGate::new(3);
-    for worker in [2, 0, 1, 0, 1] {
-        gate.pass(worker, 0);
-        assert!(rt; !gate.met());
-    }
 }
 
 /// A source of eight bytes, at most four a call, that counts the calls without room.

@@ -18,18 +18,3 @@ pub fn density_part(tables: &Tables, mass: u32, r2: u64, h: u32) -> u64
 {
     Length::new(h).density_part(tables, mass, r2)
 }
-
-#[cfg(test)]
-mod tests {
-    use super::*;
-    use std::alloc::AllocError;
-
-    #[test]
-    fn adds_what_the_kernel_gives(rt: HostRuntime) -> Result<(), AllocError> {
-        let tables = Tables::new(rt.alloc())?;
-        assert_eq!(rt; density_part(&tables, 1, 0, 131_072), 20);
-        assert_eq!(rt; density_part(&tables, 1024, 0, 1024), 43_748_163_584);
-        assert_eq!(rt; density_part(&tables, 1024, 262_144, 1024), 10_937_040_896);
-        Ok(())
-    }
-}

@@ -81,15 +81,3 @@ fn root_from(start: u64, square: u64) -> u64
     }
     root
 }
-
-#[cfg(test)]
-mod tests {
-    use super::*;
-
-    #[test]
-    fn rounds_the_root_down(rt: HostRuntime) {
-        assert_eq!(rt; root(262_144, 1024), 512);
-        assert_eq!(rt; root(262_143, 1024), 511);
-        assert_eq!(rt; root(0, 131_072), 0);
-    }
-}

@@ -34,39 +34,3 @@ pub fn force_part(tables: &Tables, masses: [u32; 2], hs: [u32; 2], gs: [u64; 2],
     let second = Pull::new(Length::new(hs[1]), masses[1], gs[1]);
     first.pair_factor(tables, &second, r2)
 }
-
-#[cfg(test)]
-mod tests {
-    use super::*;
-    use std::alloc::AllocError;
-
-    #[test]
-    fn rounds_the_ghost_down(rt: HostRuntime) {
-        for (rho, want) in [
-            (43_748_163_584, 1608),
-            (54_685_204_480, 1286),
-            (6_835_650_560, 10_294),
-        ] {
-            assert!(rt; rho >= 20);
-            assert_eq!(rt; ghost_of(65_536, rho), want, "at {rho}");
-        }
-    }
-
-    #[test]
-    fn adds_what_each_length_gives(rt: HostRuntime) -> Result<(), AllocError> {
-        let tables = Tables::new(rt.alloc())?;
-        let even = force_part(&tables, [1024, 1024], [1024, 1024], [1286, 1286], 262_144);
-        assert_eq!(rt; even, 1_287_692_376);
-        let one_in_reach = force_part(
-            &tables,
-            [1024, 1024],
-            [1024, 2048],
-            [1608, 10_294],
-            1_048_576,
-        );
-        assert_eq!(rt; one_in_reach, 161_055_420);
-        let uneven = force_part(&tables, [1024, 4096], [1024, 1024], [1474, 378], 794 * 794);
-        assert_eq!(rt; uneven, 481_719_046);
-        Ok(())
-    }
-}

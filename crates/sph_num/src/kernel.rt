@@ -76,19 +76,3 @@ fn slope_at(s: u32) -> u32
         6 * (rest * rest) / s
     }
 }
-
-#[cfg(test)]
-mod tests {
-    use super::*;
-
-    #[test]
-    fn tabulates_the_kernel(rt: HostRuntime) -> Result<(), AllocError> {
-        let tables = Tables::new(rt.alloc())?;
-        for (s, w, u) in [(0, 1 << 30, 12_288), (512, 1 << 28, 3072), (1024, 0, 0)] {
-            assert!(rt; s <= 1024);
-            assert_eq!(rt; tables.w(s), w, "at {s}");
-            assert_eq!(rt; tables.u(s), u, "at {s}");
-        }
-        Ok(())
-    }
-}

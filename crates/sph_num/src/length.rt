@@ -134,35 +134,3 @@ impl Length {
         }
     }
 }
-
-#[cfg(test)]
-mod tests {
-    use super::*;
-    use std::alloc::AllocError;
-
-    #[test]
-    fn keeps_the_length(rt: HostRuntime) {
-        let length = Length::new(131_072);
-        assert_eq!(rt; length.h(), 131_072);
-        assert_eq!(rt; length.square(), 1 << 34);
-    }
-
-    #[test]
-    fn rounds_the_root_down(rt: HostRuntime) -> Result<(), AllocError> {
-        let tables = Tables::new(rt.alloc())?;
-        assert_eq!(rt; Length::new(1024).root(&tables, 262_144), 512);
-        assert_eq!(rt; Length::new(1024).root(&tables, 262_143), 511);
-        assert_eq!(rt; Length::new(131_072).root(&tables, 0), 0);
-        Ok(())
-    }
-
-    #[test]
-    fn adds_what_the_kernel_gives(rt: HostRuntime) -> Result<(), AllocError> {
-        let tables = Tables::new(rt.alloc())?;
-        assert_eq!(rt; Length::new(131_072).density_part(&tables, 1, 0), 20);
-        let length = Length::new(1024);
-        assert_eq!(rt; length.density_part(&tables, 1024, 0), 43_748_163_584);
-        assert_eq!(rt; length.density_part(&tables, 1024, 262_144), 10_937_040_896);
-        Ok(())
-    }
-}

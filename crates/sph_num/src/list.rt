@@ -48,33 +48,3 @@ impl ParticleList {
         self.items.as_slice().get(i)
     }
 }
-
-#[cfg(test)]
-mod tests {
-    use super::*;
-    use std::alloc::AllocError;
-
-    const BODY: Particle = Particle {
-        mass: 1,
-        h: 1024,
-        x0: [0; 3],
-        t0: 0,
-        p: [0; 3],
-        q: [0; 3],
-        f: [0; 3],
-        rho: 0,
-        g: 0,
-        bin: 0,
-    };
-
-    #[test]
-    fn keeps_the_order_of_the_deck(rt: HostRuntime) -> Result<(), AllocError> {
-        let heavy = Particle { mass: 2, ..BODY };
-        let list = ParticleList::from_vec(vec![in rt.alloc(); BODY, heavy]?);
-        assert_eq!(rt; list.len(), 2);
-        assert_eq!(rt; list.get(1), Some(&heavy));
-        assert_eq!(rt; list.get(2), None);
-        assert_eq!(rt; list.as_slice(), [BODY, heavy].as_slice());
-        Ok(())
-    }
-}

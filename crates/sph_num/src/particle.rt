@@ -22,9 +22,9 @@ pub struct Params {
     pub accuracy: u32,
     /// A cell with more particles than this is split.
     pub leaf: u32,
-    /// A task over more pairs than this is split.
+    /// A task whose counts of members multiply to more than this is split, as far as its cells aren't leaves.
     pub pairs: u32,
-    /// How far a particle may move on an axis before the tree is made anew, in length units.
+    /// How far particles may move on an axis from the places of their tree, in length units, with every pair in reach still met.
     pub slack: u32,
 }
 

@@ -167,25 +167,3 @@ fn broken_part(rest: u128, divisor: u128) -> u64
     let low = (scaled % divisor << 32) / divisor;
     ((high << 32) + low) as u64
 }
-
-#[cfg(test)]
-mod tests {
-    use super::*;
-    use std::alloc::AllocError;
-
-    #[test]
-    fn adds_what_each_length_gives(rt: HostRuntime) -> Result<(), AllocError> {
-        let tables = Tables::new(rt.alloc())?;
-        let length = Length::new(1024);
-        let even = Pull::new(length, 1024, 1286);
-        assert_eq!(rt; even.factor(1024, tables.u(512)), 643_846_188);
-        assert_eq!(rt; even.pair_factor(&tables, &even, 262_144), 1_287_692_376);
-        let short = Pull::new(length, 1024, 1608);
-        let long = Pull::new(Length::new(2048), 1024, 10_294);
-        assert_eq!(rt; short.pair_factor(&tables, &long, 1_048_576), 161_055_420);
-        let light = Pull::new(length, 1024, 1474);
-        let heavy = Pull::new(length, 4096, 378);
-        assert_eq!(rt; light.pair_factor(&tables, &heavy, 794 * 794), 481_719_046);
-        Ok(())
-    }
-}

@@ -37,28 +37,3 @@ fn axis2(a: u32, b: u32) -> u64
     let d = i64::from(minimal(a, b));
     (d * d) as u64
 }
-
-#[cfg(test)]
-mod tests {
-    use super::*;
-
-    #[test]
-    fn takes_the_nearer_image(rt: HostRuntime) {
-        for (a, b, want) in [
-            (1000, 1512, -512),
-            (1_048_320, 256, -512),
-            (0, 524_288, -524_288),
-        ] {
-            assert!(rt; a < BOX_SIDE && b < BOX_SIDE);
-            assert_eq!(rt; minimal(a, b), want, "at {a}, {b}");
-        }
-    }
-
-    #[test]
-    fn squares_a_distance_across_a_face(rt: HostRuntime) {
-        for (a, b) in [(1000, 1512), (1_048_320, 256)] {
-            assert!(rt; a < BOX_SIDE && b < BOX_SIDE);
-            assert_eq!(rt; dist2([a, 0, 0], [b, 0, 0]), 262_144, "at {a}, {b}");
-        }
-    }
-}

@@ -1,15 +1,15 @@
 -- What the sums and the kick of a step need of each particle of the list before it.
-use Rattle.std.proofs.Common.{◌≡◌, ℕ, zero, suc, ◌+◌, ◌*◌, ◌^◌, ◌<◌, ◌≤◌, List, length, map, get_or, subst, sym, arith}
+use Rattle.std.proofs.Common.{◌≡◌, ℕ, ◌+◌, ◌*◌, ◌^◌, ◌<◌, ◌≤◌, List, length, map, get_or, subst, sym, arith}
 use Rattle.std.specs.Prelude.{unsigned_abs}
 use Rattle.std.specs.List.{All, Contains}
 use Rattle.std.proofs.lemmas.List.Elements.{All-map, Contains-get_or}
-use Rattle.std.proofs.lemmas.Nat.{mul-le, pow_pos}
+use Rattle.std.proofs.lemmas.Nat.{pow_pos}
 use Rattle.sph_num.specs.declared.particle.Bounds.{Bounds}
 use Rattle.sph_num.specs.declared.particle.Params.{Params}
 use Rattle.sph_num.specs.declared.particle.Particle.{Particle}
 use Rattle.sph_num.specs.Bound.{bounds_of, greatest_momentum, greatest_force, greatest_ghost, momentum_limit}
 use Rattle.sph_num.specs.Motion.{IsMomentum}
-use Rattle.sph_num.specs.Ranges.{most_particles, IsMass, IsLength, AreBoundsInRange}
+use Rattle.sph_num.specs.Ranges.{most_particles, IsMass, IsLength}
 use Rattle.sph_num.specs.Space.{IsPlace}
 use Rattle.sph_num.specs.Totals.{component}
 use Rattle.sph_num.proofs.Drifts.{IsPlace-position_of}
@@ -17,19 +17,14 @@ use Rattle.sph_num.proofs.Sums.{greatest_ghost-lt}
 use Rattle.sph_deck.specs.declared.deck.Deck.{Deck}
 use Rattle.sph_deck.specs.Accepted.{AreAccepted}
 use Rattle.sph_bins.specs.Bins.{IsStepTick}
-use Rattle.sph_bins.specs.InBounds.{IsWithin, IsAt, InBounds}
+use Rattle.sph_bins.specs.InBounds.{InBounds}
 use Rattle.sph_bins.specs.Kick.{density_at, ghost_at, force_at}
 use Rattle.sph_bins.proofs.Narrow.{density_at-ge, ghost_at-le, force_at-le}
-use Rattle.sph_bins.proofs.Room.{pow-le}
+use Rattle.sph_bins.proofs.Sound.{IsNear, below, force-lt}
+use Rattle.sph_bins.proofs.Sound as itself
 use Rattle.sph_plain.specs.inner.Bodies.{body_of, body_at, ghost_body, IsInRange}
 use Rattle.sph_plain.specs.Run.{before}
 use Rattle.sph_plain.proofs.Runs.{InBounds-before}
-
--- a particle that may be placed at a tick
-pub record IsNear (t : ℕ) (i : Particle) : Type 0 where
-  pub since : i.t0 ≤ t
-  pub soon : t ≤ i.t0 + 1024
-  pub momentum : IsMomentum i.p
 
 -- a particle of the list before a step
 pub record IsSound (params : Params) (t : ℕ) (list : List Particle) (i : Particle) : Type 0 where
@@ -43,53 +38,25 @@ pub record IsSound (params : Params) (t : ℕ) (list : List Particle) (i : Parti
   pub new_ghost : ghost_at params t list i < 2 ^ 42
   pub force : IsMomentum (force_at params t list i)
 
--- a momentum with room for more
-narrow : (a b limit : ℕ) → a + b < limit → a < limit
-narrow a b limit h = omega arith
-
-IsNear-at : (params : Params) (bounds : Bounds) (t : ℕ) (i : Particle) → i.bin ≤ 10 → IsAt params bounds t i → IsNear t i
-IsNear-at params bounds zero i short at = record {
-  since = omega (arith, at.tick);
-  soon = omega arith;
-  momentum = λ axis. narrow (unsigned_abs (component i.p axis)) _ (2 ^ 96) (at.room axis);
-}
-IsNear-at params bounds (suc t) i short at = record {
-  since = omega (arith, at.since);
-  soon = omega (arith, at.until, pow-le i.bin 10 short);
-  momentum = λ axis. narrow (unsigned_abs (component i.p axis)) _ (2 ^ 96) (at.room axis);
-}
-
 -- a force that a whole run keeps narrow is narrow
-force-lt : (m force ticks limit : ℕ) → 1 ≤ ticks → m + force * ticks < limit → force < limit
-force-lt m force ticks limit some fits = omega (arith, mul-le force 1 force ticks (omega arith) some)
-
 greatest_force-narrow : (params : Params) (bounds : Bounds) (most : ℕ) → momentum_limit params bounds most < 2 ^ 96 → greatest_force params.sound bounds < 2 ^ 96
 greatest_force-narrow params bounds most sums =
     force-lt most (greatest_force params.sound bounds) (2 * params.ticks + 2 ^ params.bin_max) (2 ^ 96) (omega (arith, pow_pos params.bin_max)) sums
 
--- within what is below
-below : (a b limit : ℕ) → a ≤ b → b < limit → a < limit
-below a b limit low high = omega arith
-
--- a mass and a length within bounds in range
-IsMass-within : (bounds : Bounds) (mass : ℕ) → AreBoundsInRange bounds → bounds.mass.0 ≤ mass → mass ≤ bounds.mass.1 → IsMass mass
-IsMass-within bounds mass are low high = record { low = omega (arith, are.least_mass.low); high = omega (arith, are.greatest_mass.high) }
-
-IsLength-within : (bounds : Bounds) (h : ℕ) → AreBoundsInRange bounds → bounds.h.0 ≤ h → h ≤ bounds.h.1 → IsLength h
-IsLength-within bounds h are low high = record { low = omega (arith, are.least_h.low); high = omega (arith, are.greatest_h.high) }
-
-sound_at : (params : Params) (bounds : Bounds) (t : ℕ) (list : List Particle) (i : Particle) → InBounds params bounds t list → IsStepTick params t → greatest_force params.sound bounds < 2 ^ 96 → Contains list i → IsWithin params bounds i → IsAt params bounds t i → IsSound params t list i
-sound_at params bounds t list i are tick weak member within at =
+sound_at : (params : Params) (bounds : Bounds) (t : ℕ) (list : List Particle) → InBounds params bounds t list → IsStepTick params t → greatest_force params.sound bounds < 2 ^ 96 → (k : ℕ) (d : Particle) → k < length list → IsSound params t list (get_or list k d)
+sound_at params bounds t list are tick weak k d inside =
+    let i = get_or list k d in
+    let member = Contains-get_or list k d inside in
     let light = greatest_ghost-lt params.sound bounds are.params_in_range.sound_high are.bounds_in_range in
-    let short : i.bin ≤ 10 = omega (arith, within.bin, are.params_in_range.bin_max) in
+    let of = itself.sound params bounds t list are k d inside in
     record {
-      near = IsNear-at params bounds t i short at;
-      bin = short;
-      mass = IsMass-within bounds i.mass are.bounds_in_range within.mass_low within.mass_high;
-      h = IsLength-within bounds i.h are.bounds_in_range within.h_low within.h_high;
-      place = within.place;
+      near = of.near;
+      bin = of.bin;
+      mass = of.mass;
+      h = of.h;
+      place = of.place;
       density_low = density_at-ge params bounds t list i are member;
-      kept_ghost = below i.g (greatest_ghost params.sound bounds) (2 ^ 42) within.ghost_term light;
+      kept_ghost = of.kept_ghost;
       new_ghost = below (ghost_at params t list i) (greatest_ghost params.sound bounds) (2 ^ 42) (ghost_at-le params bounds t list i are tick member) light;
       force = λ axis. below (unsigned_abs (component (force_at params t list i) axis)) (greatest_force params.sound bounds) (2 ^ 96) (force_at-le params bounds t list i are tick member axis) weak;
     }
@@ -100,7 +67,7 @@ sound deck t is tick k d inside =
     let bounds = bounds_of deck.particles in
     let are = InBounds-before deck t is tick in
     let weak = greatest_force-narrow deck.params bounds (greatest_momentum deck.particles) is.sums in
-    sound_at deck.params bounds t list (get_or list k d) are tick weak (Contains-get_or list k d inside) (are.within k d inside) (are.at k d inside)
+    sound_at deck.params bounds t list are tick weak k d inside
 
 -- the same of a list that is this one
 pub sound_of : (deck : Deck) (t : ℕ) (list : List Particle) → AreAccepted deck.params deck.particles → IsStepTick deck.params t → list ≡ before deck t → (k : ℕ) (d : Particle) → k < length list → IsSound deck.params t (before deck t) (get_or list k d)

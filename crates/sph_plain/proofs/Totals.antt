@@ -10,6 +10,7 @@ use Rattle.std.proofs.lemmas.Bool.Decides.{nat_tests}
 use Rattle.std.proofs.lemmas.List.Folds.{fold-map}
 use Rattle.std.proofs.lemmas.List.Sums.{sum_by_more}
 use Rattle.std.proofs.lemmas.Nat.{mul-le}
+use Rattle.lists.proofs.Elements.{three-eq}
 use Rattle.sph_num.specs.declared.particle.Params.{Params}
 use Rattle.sph_num.specs.declared.particle.Particle.{Particle}
 use Rattle.sph_num.specs.Density.{density_part, density_within}
@@ -63,16 +64,12 @@ density_kept i bodies k d total r2 low so_far distance beyond =
     let none : density_from i j ≡ 0 = ap (λ n. density_within j.pull.mass n i.pull.h) (sym distance) ∙ density_within_outer j.pull.mass r2 i.pull.h beyond in
     omega (arith, so_far, none, sum_by_more (density_from i) bodies k d low)
 
--- a vector from equal components
-pub vector-eq : (a b c x y z : ℤ) → a ≡ x → b ≡ y → c ≡ z → a ∷ b ∷ c ∷ [] ≡ x ∷ y ∷ z ∷ []
-vector-eq a b c x y z p q r = rw (p, q, r) refl
-
 -- the force from one body more, and from one that gives none
 pub force_on_more : (i : Body) (bodies : List Body) (k : ℕ) (d : Body) (total : List ℤ) → k < length bodies → total ≡ force_on i (take k bodies) → pulled total i (get_or bodies k d) ≡ force_on i (take (k + 1) bodies)
 unfolding force_on pulled
 force_on_more i bodies k d total low so_far =
     ap (λ v. vector_of (λ axis. component v axis +ℤ pull_on i axis (get_or bodies k d))) so_far
-    ∙ vector-eq _ _ _ _ _ _ (total_by_more (pull_on i 0) bodies k d low) (total_by_more (pull_on i 1) bodies k d low) (total_by_more (pull_on i 2) bodies k d low)
+    ∙ three-eq _ _ _ _ _ _ (total_by_more (pull_on i 0) bodies k d low) (total_by_more (pull_on i 1) bodies k d low) (total_by_more (pull_on i 2) bodies k d low)
 
 pull_on_none : (i j : Body) (axis : ℕ) → max i.pull.h j.pull.h * max i.pull.h j.pull.h ≤ dist2 i.place j.place → pull_on i axis j ≡ pos 0
 pull_on_none i j axis far =
@@ -85,7 +82,7 @@ pub force_on_kept : (i : Body) (bodies : List Body) (k : ℕ) (d : Body) (total 
 unfolding force_on
 force_on_kept i bodies k d total low so_far far =
     let none = λ (axis : ℕ). pull_on_none i (get_or bodies k d) axis far in
-    so_far ∙ vector-eq _ _ _ _ _ _ (total_by_kept (pull_on i 0) bodies k d low (none 0)) (total_by_kept (pull_on i 1) bodies k d low (none 1)) (total_by_kept (pull_on i 2) bodies k d low (none 2))
+    so_far ∙ three-eq _ _ _ _ _ _ (total_by_kept (pull_on i 0) bodies k d low (none 0)) (total_by_kept (pull_on i 1) bodies k d low (none 1)) (total_by_kept (pull_on i 2) bodies k d low (none 2))
 
 pub force_on_none : (i : Body) (bodies : List Body) → pos 0 ∷ pos 0 ∷ pos 0 ∷ [] ≡ force_on i (take 0 bodies)
 unfolding force_on
@@ -137,4 +134,4 @@ pub force_of_bodies : (params : Params) (t : ℕ) (list : List Particle) (i : Pa
 unfolding force_on ghost_body
 force_of_bodies params t list i =
     let body = ghost_body params t list in
-    vector-eq _ _ _ _ _ _ (total_by-map (pull_on (body i) 0) body list) (total_by-map (pull_on (body i) 1) body list) (total_by-map (pull_on (body i) 2) body list)
+    three-eq _ _ _ _ _ _ (total_by-map (pull_on (body i) 0) body list) (total_by-map (pull_on (body i) 1) body list) (total_by-map (pull_on (body i) 2) body list)

@@ -10,9 +10,10 @@ ghost use Rattle.sph_run.specs.inner.Pieces.{end_of, piece_at};
 ghost use Rattle.sph_run.specs.inner.Steps.{TakesSteps};
 
 use crate::form::{Form, RunEnd};
+use qs_gate::Gate;
 use sph_bins::next_tick;
 use sph_deck::Deck;
-use sph_edge::{Failed, Gate, Sink, write_whole};
+use sph_edge::{Failed, Sink, write_whole};
 use sph_num::Particle;
 use sph_plain::{PlainSteps, start};
 use sph_report::summary_line;

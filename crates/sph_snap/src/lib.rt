@@ -16,6 +16,3 @@ pub use layout::END;
 pub use put::put_snapshot;
 pub use read::read_stream;
 pub use snapshot::{RowList, SnapRow, Snapshot};
-
-#[cfg(test)]
-mod tests;

@@ -2,8 +2,8 @@
 use crate::blocks::blocks_of;
 use crate::{prepare, step};
 use qs_core::Work;
+use qs_gate::NoGate;
 use sph_deck::{Deck, read_deck};
-use sph_edge::NoGate;
 use sph_num::Particle;
 use sph_plain::start;
 use std::alloc::Global;

@@ -8,8 +8,9 @@ ghost use Rattle.sph_top.specs.inner.Steps.{Follows, HasNumbers, Writes};
 
 use crate::output::{plain, run, sample, write_text};
 use crate::status::Status;
+use qs_gate::Gate;
 use sph_deck::{Deck, DeckFault, DeckRefusal, LONGEST_TEXT, lattice, read_deck};
-use sph_edge::{Gate, ReadEnd, Sink, Source, read_whole};
+use sph_edge::{ReadEnd, Sink, Source, read_whole};
 use sph_report::{check_text, tree_text};
 use sph_run::Form;
 use sph_words::Job;

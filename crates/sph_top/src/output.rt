@@ -6,8 +6,9 @@ ghost use Rattle.sph_top.specs.Output.{stream, text};
 ghost use Rattle.sph_top.specs.inner.Steps.{AreWorkers, WritesOutput, WritesSample, run_output, status_at};
 
 use crate::status::Status;
+use qs_gate::Gate;
 use sph_deck::{Deck, lattice_deck};
-use sph_edge::{Failed, Gate, Sink, write_whole};
+use sph_edge::{Failed, Sink, write_whole};
 use sph_run::{Form, RunEnd, run_plain};
 use std::alloc::{AllocError, Global};
 use std::thread::Threads;

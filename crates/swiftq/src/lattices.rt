@@ -1,6 +1,6 @@
 //! Generated decks through the top call.
 use crate::tests::{do_job, do_job_past};
-use sph_edge::{CountGate, MeetGate};
+use qs_gate::{CountGate, MeetGate};
 use sph_snap::{Snapshot, read_stream};
 use sph_top::Status;
 use std::alloc::Global;

@@ -10,7 +10,8 @@ mod runs;
 #[cfg(test)]
 mod tests;
 
-use sph_edge::{NoGate, StdSink, StdSource};
+use qs_gate::NoGate;
+use sph_edge::{StdSink, StdSource};
 use sph_top::{exit_of, swiftq};
 use std::io::ErrorKind;
 use std::process::ExitCode;

@@ -3,7 +3,8 @@ ghost use Rattle.std.specs.Prelude.{None};
 
 use crate::runs::REST;
 use crate::tests::{Body, ONE_SNAPSHOT, Top, deck, words_for};
-use sph_edge::{Failed, MemorySource, NoGate, Sink};
+use qs_gate::NoGate;
+use sph_edge::{Failed, MemorySource, Sink};
 use sph_top::swiftq;
 use std::alloc::{AllocError, Global};
 use std::test::Fail;

@@ -1,8 +1,9 @@
 //! Whole runs of the top call over sources and sinks in memory.
 ghost use Rattle.std.specs.Prelude.{◌≤◌};
 
+use qs_gate::{Gate, NoGate};
 use sph_deck::{DeckFault, DeckRefusal, bound_of, read_deck};
-use sph_edge::{Gate, MemorySink, MemorySource, NoGate, Source};
+use sph_edge::{MemorySink, MemorySource, Source};
 use sph_top::{Status, swiftq};
 use std::alloc::{AllocError, Global};
 use std::test::Fail;

@@ -8,7 +8,7 @@ ghost use Rattle.task_graph.specs.inner.LeafLists.{AddsSpan, AddsWithin, AreCoun
 ghost use Rattle.task_graph.specs.inner.Parts.{AreLeavesFor, AreLeavesOf, spans_above};
 ghost use Rattle.task_graph.specs.Tasks.{spanned_leaves};
 
-use cell_tree::{Span, Tree, due_leaves};
+use cell_tree::{Span, Tree, due_counts};
 use std::alloc::{AllocError, Global};
 use std::marker::Model;
 
@@ -204,7 +204,7 @@ impl Leaves {
         ensures leaves { IfOk result (AreLeavesFor tree.now spans.now due.now drift) }
         ensures can { OnOk result (CanBeMade tree.now) }
     {
-        let due_before = due_leaves(alloc, tree, due)?;
+        let due_before = due_counts(alloc, tree, due)?;
         let dues = leaves_due(alloc, &due_before)?;
         let above_dues = spans_above_leaves(alloc, tree, spans, &due_before)?;
         let (drifting, above_drifting) = if drift {

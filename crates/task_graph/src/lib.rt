@@ -7,8 +7,6 @@ mod leaves;
 mod numbers;
 mod successors;
 mod task;
-#[cfg(test)]
-mod tests;
 mod waits;
 
 pub use graph::Graph;

@@ -1,7 +1,7 @@
 //! Gates that see in which order tasks are passed, and by which worker, and how much was done before.
 
 use crate::tests::free::FreeTasks;
-use sph_edge::Gate;
+use qs_gate::Gate;
 use std::sync::atomic::{AtomicU64, Ordering};
 
 /// A gate that wants three tasks in an order, all from one worker. It counts its passes, and those with another task or

@@ -5,7 +5,7 @@ use Rattle.qs_core.specs.declared.event.Note.{Note}
 use Rattle.qs_core.specs.Shape.{Shape}
 use Rattle.qs_core.specs.Core.{Running}
 use Rattle.qs_core.specs.Steps.{unless_over}
-use Rattle.qs_core.specs.Blocks.{IsReady}
+use Rattle.qs_core.specs.Blocks.{IsApplicable}
 use Rattle.qs_table.specs.declared.view.Fetched.{Fetched}
 use Rattle.qs_table.specs.declared.view.SeatView.{SeatView}
 use Rattle.qs_table.specs.Claims.{freed_in}
@@ -33,7 +33,7 @@ module _ {B : Type 0} (shape : Shape) (fits : ℕ → B → Type 0) (done : B �
   pub record IsOutReady (v : SeatView) (leaf : ℕ) (block : B) : Type 0 where
     pub out : Contains v.holds.out leaf
     pub noted : Contains v.fetched (record { leaf = leaf; done = done block })
-    pub ready : (running : Running) → v.holds.running ≡ Some running → IsReady shape running.task leaf (fits leaf block) (done block)
+    pub ready : (running : Running) → v.holds.running ≡ Some running → IsApplicable shape running.task leaf (fits leaf block) (done block)
 
   -- the blocks of the leaves from one on were fetched, and all else that was out still is
   pub record HasFetched (from : ℕ) (before after : SeatView) (blocks : List B) : Type 0 where

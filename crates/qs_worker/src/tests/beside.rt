@@ -8,9 +8,9 @@ use crate::tests::{opened, turned, worker_on};
 use crate::turn::Turn;
 use crate::worker::Worker;
 use qs_core::family::{Family, THREE};
+use qs_gate::CountGate;
 use qs_queues::{Push, QueueSeat, Queues};
 use qs_table::{QsSeat, ResTable, Try};
-use sph_edge::CountGate;
 use std::alloc::{AllocError, Global};
 use std::test::Fail;
 
@@ -30,7 +30,7 @@ fn opened_for_two(
 /// Two queues with this room each, and their two seats.
 fn queues_for_two(alloc: Global, room: usize) -> Result<(Queues, QueueSeat, QueueSeat), AllocError>
     ensures queues { IfOk result (λ q. (q.0.queues ≡ 2) × (q.0.tasks ≡ 3)) }
-    ensures seats { IfOk result (λ q. queue.IsSeatOf q.0 q.1 × queue.IsSeatOf q.0 q.2) }
+    ensures seats { IfOk result (λ q. queue.IsQueueSeatOf q.0 q.1 × queue.IsQueueSeatOf q.0 q.2) }
 {
     let (queues, mut seats) = Queues::new(alloc, 2, room, 3, 2)?;
     let last = seats.pop().unwrap();
@@ -48,7 +48,7 @@ fn second_on(
 ) -> Result<Worker<Family>, AllocError>
     requires plan { table.now.plan ≡ record { has_tasks = true; has_third = true } }
     requires seat { IsNewSeat table.now seat }
-    requires queue_seat { queue.IsSeatOf queues.now queue_seat }
+    requires queue_seat { queue.IsQueueSeatOf queues.now queue_seat }
     requires queues { 2 ≤ queues.now.queues }
     ensures { IfOk result (λ w. IsOn table.now queues.now w) }
 {
@@ -60,10 +60,10 @@ fn second_on(
 
 /// Puts a task into a queue.
 fn pushed(queues: &Queues, seat: &mut QueueSeat, to: u32, task: u32) -> Push
-    requires seat { queue.IsSeatOf queues.now seat.old }
+    requires seat { queue.IsQueueSeatOf queues.now seat.old }
     requires to { to < queues.now.queues }
     requires task { task < queues.now.tasks }
-    ensures { queue.IsSeatOf queues.now seat.new }
+    ensures { queue.IsQueueSeatOf queues.now seat.new }
 {
     queues.push(seat, to, 1, task)
 }

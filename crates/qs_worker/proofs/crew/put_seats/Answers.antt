@@ -12,7 +12,7 @@ pub loop-worker-preserved : goal.loop-worker-preserved
 loop-worker-preserved g c =
     let v = c.loop-worker.invariant in
     let is = c.in-Some.ensures.items in
-    let was : c.into_seats-seat.result.0 ≡ c.in-Some.worker.lock_seat = ap (λ (p : TokenView _ × queue.TokenView). p.0) c.into_seats-seat.ensures.seats in
+    let was : c.into_seats-seat.result.0 ≡ c.in-Some.worker.lock_seat = ap (λ (p : TokenView _ × queue.QueueTokenView). p.0) c.into_seats-seat.ensures.seats in
     let more = c.push_reserved.ensures.items ∙ ap (λ s. c.loop-worker.seats.items ++ s ∷ []) was in
     let longer = ap length more ∙ length_push _ _ in
     let less = ap length is ∙ length_push _ _ in

@@ -1,11 +1,11 @@
 use Rattle.std.proofs.Common.{◌≡◌, ◌≤◌, ℕ, None}
-use Rattle.qs_queues.specs.Seats.{IsSeatOf}
+use Rattle.qs_queues.specs.Seats.{IsQueueSeatOf}
 use Rattle.qs_worker.proofs.Looked.{Misses}
 use Rattle.qs_worker.proofs.looks.look_round.Given as goal
 
 abbrev pub invariant-loop-k : goal.invariant-loop-k
 invariant-loop-k g l =
-    IsSeatOf l.fn.queues l.seat
+    IsQueueSeatOf l.fn.queues l.seat
     × (l.k ≤ l.fn.queues.queues)
     × (g.T.Trial.taken l.trial ≡ None)
     × (g.T.Trial.limit l.trial ≡ g.T.Trial.limit l.fn.trial)

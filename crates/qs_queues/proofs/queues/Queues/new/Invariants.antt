@@ -1,5 +1,5 @@
 use Rattle.std.proofs.Common.{◌≡◌, [], All, length}
-use Rattle.qs_queues.specs.Seats.{TokenView}
+use Rattle.qs_queues.specs.Seats.{QueueTokenView}
 use Rattle.qs_queues.specs.Views.{fresh_view}
 use Rattle.qs_queues.proofs.queues.Queues.new.Given as goal
 
@@ -10,4 +10,4 @@ invariant-loop-seat l =
     × (l.first.table_id ≡ l.table.shared.table_id)
     × (l.first.me ≡ (fresh_view l.fn.room l.fn.tasks, []))
     × (length l.tokens.items ≡ l._seat)
-    × All (λ (s : TokenView). s ≡ record { id = l.table.shared.table_id; view = fresh_view l.fn.room l.fn.tasks }) l.tokens.items
+    × All (λ (s : QueueTokenView). s ≡ record { id = l.table.shared.table_id; view = fresh_view l.fn.room l.fn.tasks }) l.tokens.items
