@@ -11,6 +11,7 @@ pub record Made : Type 0 where
   pub lengths : List ℕ
   pub leaf : ℕ
 
+-- the same from its parts
 abbrev pub made_of : List (List ℕ) → List ℕ → ℕ → Made
 made_of points lengths leaf = record { points = points; lengths = lengths; leaf = leaf }
 
@@ -48,6 +49,7 @@ subtree points leaf (suc levels) cell =
 abbrev pub cells_of : Made → List Cell
 cells_of made = subtree made.points made.leaf deepest_level (record { cube = root_cube; members = range_with_len 0 (length made.points) })
 
+-- what stands for a cell where a number is that of none
 abbrev pub no_cell : Cell
 no_cell = record { cube = root_cube; members = [] }
 

@@ -35,6 +35,7 @@ splits_first made a b =
     else if (cell_at made a).cube.level == (cell_at made b).cube.level then nat_le (count_of made b) (count_of made a)
     else nat_lt (cell_at made a).cube.level (cell_at made b).cube.level
 
+-- the span of one cell, or of two
 abbrev pub span_of : ℕ → Option ℕ → Span
 span_of first second = record { first = first; second = second }
 

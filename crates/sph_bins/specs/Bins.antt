@@ -7,6 +7,7 @@ use Rattle.sph_num.specs.Kernel.{greatest_passing}
 abbrev pub IsDue : ℕ → ℕ → Type 0
 IsDue t bin = t % 2 ^ bin ≡ 0
 
+-- the same as a test
 abbrev pub is_due : ℕ → ℕ → Bool
 is_due t bin = t % 2 ^ bin == 0
 

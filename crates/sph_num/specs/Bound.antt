@@ -5,10 +5,11 @@ use Rattle.sph_num.specs.declared.particle.Params.{Params}
 use Rattle.sph_num.specs.declared.particle.Particle.{Particle}
 use Rattle.sph_num.specs.Kernel.{kernel_constant}
 
--- the least and the greatest of a list that isn't empty
+-- the least of a list that isn't empty
 abbrev pub least_of : List ℕ → ℕ
 least_of xs = fold min (slice_index xs 0) xs
 
+-- the greatest of a list; 0 of an empty one
 abbrev pub greatest_of : List ℕ → ℕ
 greatest_of xs = fold max 0 xs
 

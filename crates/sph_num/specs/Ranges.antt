@@ -9,6 +9,7 @@ use Rattle.sph_num.specs.Space.{IsPlace}
 abbrev pub most_particles : ℕ
 most_particles = 32768
 
+-- the deck's parameters are in their ranges
 pub record AreParamsInRange (params : Params) : Type 0 where
   pub ticks : params.ticks ≤ 65536
   pub every_low : 1 ≤ params.every
@@ -25,11 +26,12 @@ pub record AreParamsInRange (params : Params) : Type 0 where
   pub pairs_high : params.pairs ≤ 2 ^ 30
   pub slack : params.slack ≤ 65535
 
--- a mass, and a smoothing length
+-- a number that a mass may be
 pub record IsMass (mass : ℕ) : Type 0 where
   pub low : 1 ≤ mass
   pub high : mass ≤ 65536
 
+-- a number that a smoothing length may be, in length units
 pub record IsLength (h : ℕ) : Type 0 where
   pub low : 1024 ≤ h
   pub high : h ≤ 131072

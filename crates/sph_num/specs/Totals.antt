@@ -10,6 +10,7 @@ total_by f (x ∷ xs) = f x +ℤ total_by f xs
 abbrev pub component : List ℤ → ℕ → ℤ
 component vector axis = slice_index_or vector axis (pos 0)
 
+-- the vector whose components are 0
 abbrev pub zero_vector : List ℤ
 zero_vector = pos 0 ∷ pos 0 ∷ pos 0 ∷ []
 

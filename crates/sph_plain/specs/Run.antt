@@ -9,6 +9,7 @@ use Rattle.sph_bins.specs.Kick.{next_list}
 abbrev pub started : Particle → Particle
 started i = record i { t0 = 0; q = i.p; f = zero_vector; rho = 0; g = 0; bin = 0 }
 
+-- the particles of a deck before its run
 abbrev pub start : Deck → List Particle
 start deck = map started deck.particles
 

@@ -23,20 +23,23 @@ abbrev pub graph_of_deck : Deck → Plan
 graph_of_deck deck =
     graph_of (tree_of deck) (spans_of (tree_of deck) (all_due deck) (record { pairs = deck.params.pairs; slack = deck.params.slack })) (all_due deck) false
 
--- the greatest level of a cell, and the greatest number of members of a leaf
+-- the greatest level of a cell
 abbrev pub greatest_level : Made → ℕ
 greatest_level made = greatest_of (map (λ cell. cell.cube.level) (cells_of made))
 
+-- the greatest number of members of a leaf
 abbrev pub largest_leaf : Made → ℕ
 largest_leaf made = greatest_of (map (λ cell. length cell.members) (filter (is_leaf made) (cells_of made)))
 
--- the number of tasks of a kind, the number of edges, and the greatest weight
+-- the number of tasks of a kind
 abbrev pub tasks_of_kind : Kind → Plan → ℕ
 tasks_of_kind kind plan = count_by (λ task. same_kind kind task.kind) plan.tasks
 
+-- the number of edges
 abbrev pub edge_count : Plan → ℕ
 edge_count plan = sum_by length plan.successors
 
+-- the greatest weight
 abbrev pub heaviest_weight : Plan → ℕ
 heaviest_weight plan = greatest_of plan.weights
 
@@ -44,7 +47,7 @@ heaviest_weight plan = greatest_of plan.weights
 abbrev pub entry : List ℕ → ℕ → List ℕ
 entry word number = word ++ decimal number
 
--- the line of the tree, and that of the graph
+-- the line of the tree
 abbrev pub line_of_tree : ℕ → Made → List ℕ
 line_of_tree particles made =
     entry (codes "particles ") particles
@@ -54,6 +57,7 @@ line_of_tree particles made =
     ++ entry (codes " largest ") (largest_leaf made)
     ++ 10 ∷ []
 
+-- the line of the graph
 abbrev pub line_of_graph : Plan → List ℕ
 line_of_graph plan =
     entry (codes "density ") (tasks_of_kind Density plan)
@@ -64,5 +68,6 @@ line_of_graph plan =
     ++ entry (codes " heaviest ") (heaviest_weight plan)
     ++ 10 ∷ []
 
+-- the two lines of a deck
 abbrev pub tree_lines : Deck → List ℕ
 tree_lines deck = line_of_tree (length deck.particles) (tree_of deck) ++ line_of_graph (graph_of_deck deck)

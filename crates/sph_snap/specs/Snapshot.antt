@@ -19,10 +19,11 @@ row_bytes row =
     little_bytes 4 row.number ++ little_bytes 4 row.mass ++ little_bytes 4 row.h ++ flat_map (little_bytes 4) row.x
     ++ flat_map signed_bytes row.q ++ little_bytes 8 row.rho ++ little_bytes 4 row.bin
 
--- the eight bytes in front of a snapshot, and those behind the last one
+-- the eight bytes in front of a snapshot
 abbrev pub snapshot_mark : List ℕ
 snapshot_mark = codes "SPHSNAP1"
 
+-- the eight bytes behind the last one
 abbrev pub end_mark : List ℕ
 end_mark = codes "SPHSNEND"
 

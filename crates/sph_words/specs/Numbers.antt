@@ -12,10 +12,12 @@ use Rattle.sph_words.specs.declared.number.Given.TheVariants.{Absent, Number, No
 abbrev pub has_no_leading_zero : List ℕ → Bool
 has_no_leading_zero text = not (slice_index text 0 == 48) || length text == 1
 
+-- the text is a number: some digits, no zero in front of others, a value below 2^64
 abbrev pub is_number : List ℕ → Bool
 is_number text = nat_lt 0 (length text) && list_all is_ascii_digit text && has_no_leading_zero text
     && nat_lt (digits_value 10 text) (2 ^ 64)
 
+-- the number that a text is
 abbrev pub number_of : List ℕ → Option ℕ
 number_of text = if is_number text then Some (digits_value 10 text) else None
 

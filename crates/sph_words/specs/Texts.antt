@@ -16,9 +16,11 @@ arguments words = drop 1 words
 abbrev pub cut_of : List (List ℕ) → ℕ
 cut_of words = position_or_len begins_with_hyphen (arguments words)
 
+-- the words before the cut
 abbrev pub before_cut : List (List ℕ) → List (List ℕ)
 before_cut words = take (cut_of words) (arguments words)
 
+-- the words from the cut on
 abbrev pub from_cut : List (List ℕ) → List (List ℕ)
 from_cut words = drop (cut_of words) (arguments words)
 
@@ -34,6 +36,7 @@ workers_text (word ∷ []) = option_map Some (text_behind (codes "--workers=") w
 workers_text (word ∷ text ∷ []) = if bytes_eq word (codes "--workers") then Some (Some text) else None
 workers_text _ = None
 
+-- the words by their places: the job, two numbers, and what `--workers` is given
 pub record Texts : Type 0 where
   pub job : List ℕ
   pub first : Option (List ℕ)

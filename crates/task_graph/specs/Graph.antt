@@ -68,10 +68,11 @@ pub record IsPlan (plan : Plan) : Type 0 where
   pub one_cost_each : length plan.costs ≡ length plan.tasks
   pub one_weight_each : length plan.weights ≡ length plan.tasks
 
--- the graph of some tasks
+-- for each task the numbers of those that wait for it
 abbrev pub edges_between : Made → List Task → List (List ℕ)
 edges_between made tasks = map (successors_of made tasks) (range_with_len 0 (length tasks))
 
+-- the graph of some tasks
 abbrev pub plan_of : Made → List Task → Plan
 plan_of made tasks =
     let successors = edges_between made tasks in

@@ -9,10 +9,11 @@ use Rattle.cell_tree.specs.Due.{has_due}
 use Rattle.cell_tree.specs.Spans.{IsSpan, count_of, leaf_cells}
 use Rattle.task_graph.specs.declared.task.Task.{Task}
 
--- a task on one cell, and a task on the cells of a span
+-- a task on one cell
 abbrev pub cell_task : Kind → ℕ → Task
 cell_task kind cell = record { kind = kind; first = cell; second = None }
 
+-- a task on the cells of a span
 abbrev pub span_task : Kind → Span → Task
 span_task kind span = record { kind = kind; first = span.first; second = span.second }
 
@@ -29,17 +30,19 @@ abbrev pub lies_in_some : Made → Option ℕ → ℕ → Bool
 lies_in_some made None inner = false
 lies_in_some made (Some outer) inner = lies_in made outer inner
 
--- a leaf, by its cell, is below one of a span's cells; so a task touches it
+-- a leaf, by its cell, is below one of a span's cells
 abbrev pub is_below_span : Made → Span → ℕ → Bool
 is_below_span made span leaf = lies_in made span.first leaf || lies_in_some made span.second leaf
 
+-- the task touches the leaf: it is below one of the task's cells
 abbrev pub touches : Made → Task → ℕ → Bool
 touches made task leaf = is_below_span made (span_of_task task) leaf
 
--- the leaves below the cells of some spans, and those with a due member, by their cells
+-- the leaves below the cells of some spans, by their cells
 abbrev pub spanned_leaves : Made → List Span → List ℕ
 spanned_leaves made spans = filter (λ leaf. list_any (λ span. is_below_span made span leaf) spans) (leaf_cells made)
 
+-- the leaves with a due member, by their cells
 abbrev pub due_cells : Made → List Bool → List ℕ
 due_cells made due = filter (has_due made due) (leaf_cells made)
 
@@ -57,7 +60,7 @@ tasks_of made spans due drift =
     ++ map (span_task Force) spans
     ++ map (cell_task Kick) (due_cells made due)
 
--- what a task costs: the members of its one leaf, or the pairs that it looks at
+-- what a task of a kind on these cells costs: the members of its one leaf, or the pairs that it looks at
 abbrev pub cost_on : Made → Kind → ℕ → Option ℕ → ℕ
 cost_on made Density first None = (count_of made first * (count_of made first + 1)) / 2
 cost_on made Force first None = (count_of made first * (count_of made first - 1)) / 2
@@ -65,5 +68,6 @@ cost_on made Density first (Some second) = count_of made first * count_of made s
 cost_on made Force first (Some second) = count_of made first * count_of made second
 cost_on made _ first second = count_of made first
 
+-- what a task costs
 abbrev pub cost_of : Made → Task → ℕ
 cost_of made task = cost_on made task.kind task.first task.second
