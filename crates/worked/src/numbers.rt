@@ -1,5 +1,5 @@
 //! Distances, the kernel, and what a pair of particles gives.
-ghost use Rattle.std.specs.Prelude.{◌<◌, ◌≤◌, ◌^◌, unsigned_abs};
+ghost use Rattle.std.specs.Prelude.{◌≡◌, ◌<◌, ◌≤◌, ◌^◌, [], ◌∷◌, pos, unsigned_abs};
 ghost use Rattle.sph_num.specs.Space.{box_side};
 
 use sph_num::{
@@ -71,7 +71,12 @@ fn adds_what_each_length_gives(rt: HostRuntime) -> Result<(), AllocError> {
 }
 
 /// A mass of 1024 at this place on the first axis, kicked at tick 0.
-fn kicked(x: u32, push: i128) -> Particle {
+fn kicked(x: u32, push: i128) -> Particle
+    ensures mass { result.mass ≡ 1024 }
+    ensures since { result.t0 ≡ 0 }
+    ensures place { result.x0 ≡ x ∷ 0 ∷ 0 ∷ [] }
+    ensures momentum { result.p ≡ push ∷ pos 0 ∷ pos 0 ∷ [] }
+{
     Particle {
         mass: 1024,
         h: 1024,
