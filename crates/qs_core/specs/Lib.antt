@@ -7,5 +7,4 @@ pub mod Sound
 pub mod Steps
 pub mod Blocks
 pub mod Machine
-pub mod Family
 pub mod inner

@@ -1,6 +1,6 @@
 //! Tries on the family of four cells, by seats of one thread and of several.
 ghost use Rattle.std.specs.Prelude.{◌≡◌, ◌<◌, ◌≤◌, ◌∷◌, [], true, All, IfOk, length, vec_capacity, None, Some};
-ghost use Rattle.qs_core.specs.Family.{family};
+ghost use Rattle.qs_family.specs.Family.{family};
 ghost use Rattle.qs_core.specs.Steps.{started};
 ghost use Rattle.qs_table.specs.Seats.{IsSeatOf};
 ghost use Rattle.qs_table.specs.Tries.{owned_chain};
@@ -10,7 +10,7 @@ use crate::answers::{Claim, Try};
 use crate::seat::QsSeat;
 use crate::table::ResTable;
 use qs_core::Work;
-use qs_core::family::{CELLS, Family, Marks, THREE};
+use qs_family::{CELLS, Family, Marks, THREE};
 use std::alloc::{AllocError, Global};
 use std::test::Fail;
 use std::thread;
