@@ -4,7 +4,7 @@ use Rattle.qs_core.specs.declared.event.Note.{Note}
 use Rattle.qs_core.specs.Shape.{Shape, task_at}
 use Rattle.qs_core.specs.Core.{empty_view}
 use Rattle.qs_table.specs.Claims.{AreReleasesOf, freed_in}
-use Rattle.qs_table.specs.Notes.{is_claim}
+use Rattle.qs_table.specs.Notes.{claims_task}
 use Rattle.qs_table.specs.Seats.{TokenView}
 use Rattle.qs_heap.specs.declared.entry.Entry.{Entry}
 use Rattle.qs_heap.specs.Entries.{entry_of}
@@ -33,7 +33,7 @@ entry_in shape task = entry_of (task_at shape task).weight task
 -- just one of these notes claims a task: this one, which the seat hadn't claimed before; and the last notes release those that wait for it, once each, in order
 pub record WasDone (shape : Shape) (task : ℕ) (before locks : List Note) : Type 0 where
   pub is_task : task < length shape.tasks
-  pub new : count_by (is_claim task) before ≡ 0
+  pub new : count_by (claims_task task) before ≡ 0
   pub claimed : claims_in locks ≡ task ∷ []
   pub others : List Note
   pub releases : List Note

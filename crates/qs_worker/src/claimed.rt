@@ -3,7 +3,7 @@ ghost use Rattle.std.specs.Prelude.{◌≡◌, ◌+◌, ◌<◌, ◌≤◌, ◌�
 ghost use Rattle.qs_core.specs.Shape.{task_at};
 ghost use Rattle.qs_core.specs.Blocks.{AreApplied, AreApplicable, first_leaves, second_leaves};
 ghost use Rattle.qs_core.specs.Steps.{HasReturned};
-ghost use Rattle.qs_table.specs.Notes.{is_release};
+ghost use Rattle.qs_table.specs.Notes.{frees_task};
 ghost use Rattle.qs_table.specs.Seats.{IsSeatOf};
 ghost use Rattle.qs_worker.specs.inner.Claimed.{HasDone, claimed_view, got_view, over_view};
 ghost use Rattle.qs_worker.specs.inner.Leaves.{GrewQuietly};
@@ -94,7 +94,7 @@ pub(crate) fn do_claimed<W: Work>(
     requires spare { length ready.old.items + length (task_at (W.shape table.now.plan) task).successors ≤ vec_capacity ready.old }
     ensures seat { IsSeatOf table.now seat.new }
     ensures done { HasDone (W.shape table.now.plan) task seat.old.view seat.new.view ready.old.items ready.new.items }
-    ensures once { (ready.new.items ≡ ready.old.items) ⊎ ((freed : ℕ) → count_by (is_release freed) seat.new.view.notes ≤ 1) }
+    ensures once { (ready.new.items ≡ ready.old.items) ⊎ ((freed : ℕ) → count_by (frees_task freed) seat.new.view.notes ≤ 1) }
     ensures empty { (desk.new.first.items ≡ []) × (desk.new.second.items ≡ []) }
     ensures room { (vec_capacity desk.new.first ≡ vec_capacity desk.old.first) × (vec_capacity desk.new.second ≡ vec_capacity desk.old.second) }
     ensures spare { vec_capacity ready.new ≡ vec_capacity ready.old }

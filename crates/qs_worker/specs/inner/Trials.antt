@@ -5,7 +5,7 @@ use Rattle.qs_core.specs.declared.event.Note.{Note}
 use Rattle.qs_core.specs.Shape.{Shape}
 use Rattle.qs_core.specs.Core.{empty_view}
 use Rattle.qs_table.specs.declared.view.SeatView.{SeatView}
-use Rattle.qs_table.specs.Notes.{is_claim}
+use Rattle.qs_table.specs.Notes.{claims_task}
 use Rattle.qs_table.specs.Seats.{IsSeatOf, TableView, TokenView}
 use Rattle.qs_queues.specs.declared.view.QueueNote.{QueueNote}
 use Rattle.qs_queues.specs.declared.view.QueueView.{QueueView}
@@ -23,11 +23,11 @@ since before after = drop (length before) after
 pub record HasTaken (shape : Shape) (task : ℕ) (start now : SeatView) : Type 0 where
   pub is_task : task < length shape.tasks
   pub holds : now.holds ≡ claimed_view shape task
-  pub new : count_by (is_claim task) start.notes ≡ 0
+  pub new : count_by (claims_task task) start.notes ≡ 0
   pub front : List Note
   pub claim : Note
   pub is : now.notes ≡ start.notes ++ (front ++ claim ∷ [])
-  pub claims : is_claim task claim ≡ true
+  pub claims : claims_task task claim ≡ true
 
 -- what the try of a task claims
 abbrev pub claimed_by : Bool → ℕ → List ℕ
