@@ -32,6 +32,7 @@ pub mod RunningLeaves
 pub mod RunningRelease
 pub mod RunningReturn
 pub mod Tasks
+pub mod TaskRanges
 pub mod UnreleasedEdges
 pub mod Walks
 pub mod Views

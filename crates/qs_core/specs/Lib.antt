@@ -1,5 +1,6 @@
 pub mod Core
 pub mod Laws
+pub mod Ranges
 pub mod Runs
 pub mod Shape
 pub mod Sound

@@ -93,7 +93,7 @@ fn parents_of<W: Work>(alloc: Global, work: &W) -> Result<Vec<Option<u32>>, Allo
 }
 
 /// The leaves below, of each cell.
-fn ranges_of<W: Work>(alloc: Global, work: &W) -> Result<Vec<(u32, u32)>, AllocError>
+fn cell_ranges<W: Work>(alloc: Global, work: &W) -> Result<Vec<(u32, u32)>, AllocError>
     ensures { IfOk result (λ v. v.items ≡ (W.shape (W.plan work.now)).ranges) }
 {
     let mut ranges = Vec::new(alloc);
@@ -138,7 +138,7 @@ impl Layout {
         let _cells = work.cells();
         Ok(Layout {
             parents: parents_of(alloc, work)?,
-            ranges: ranges_of(alloc, work)?,
+            ranges: cell_ranges(alloc, work)?,
             leaves: work.leaves(),
             tasks: tasks_of(alloc, work)?,
         })

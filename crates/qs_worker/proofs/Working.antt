@@ -15,11 +15,11 @@ use Rattle.qs_table.specs.Tries.{owned_chain, with_cells}
 use Rattle.qs_table.proofs.TaskTries.{owned_is_complete}
 use Rattle.qs_worker.specs.inner.Claimed.{claimed_view, over_view}
 use Rattle.qs_worker.specs.inner.Leaves.{CanPut, GrewQuietly, HasFetched, HasPut, IsOutReady, IsWorkedOn, KeptCells}
-use Rattle.qs_worker.specs.Ranges.{AreLeafRanges}
+use Rattle.qs_core.specs.Ranges.{AreLeafRanges}
 use Rattle.qs_worker.proofs.Fetching.{can_still}
 use Rattle.qs_worker.proofs.Putting.{runs_on}
 use Rattle.qs_worker.proofs.Quiet.{kept_twice}
-use Rattle.qs_worker.proofs.TaskRanges.{in_one, touches_first, touches_second}
+use Rattle.qs_core.proofs.TaskRanges.{in_one, touches_first, touches_second}
 
 -- the cells of a claimed task are owned
 first_stands : (shape : Shape) (first : ℕ) (second : Option ℕ) → Contains (with_cells shape empty_view (first ∷ option_to_list second)).chains (owned_chain shape first)

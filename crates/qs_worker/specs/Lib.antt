@@ -1,4 +1,3 @@
-pub mod Ranges
 pub mod Refusals
 pub mod ReadyLists
 pub mod Offers

@@ -11,8 +11,7 @@ ghost use Rattle.qs_worker.specs.inner.Rooms.{HasRoom};
 
 use crate::desk::Desk;
 use crate::leaves::{fetch_leaves, put_leaves};
-use crate::ranges::ranges_of;
-use qs_core::Work;
+use qs_core::{Work, ranges_of};
 use qs_table::{QsSeat, ResTable};
 
 /// Does a task on the blocks of a desk.

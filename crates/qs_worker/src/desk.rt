@@ -2,8 +2,7 @@
 ghost use Rattle.std.specs.Prelude.{IfOk, vec_capacity};
 ghost use Rattle.qs_worker.specs.inner.Rooms.{HasRoom, IsRoom};
 
-use crate::ranges::ranges_of;
-use qs_core::Work;
+use qs_core::{Work, ranges_of};
 use std::alloc::{AllocError, Global};
 
 /// Room for the blocks of the leaves of a task's first cell, and of its second.

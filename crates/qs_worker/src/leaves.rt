@@ -4,8 +4,7 @@ ghost use Rattle.qs_core.specs.Steps.{CanFetch, unless_over};
 ghost use Rattle.qs_table.specs.Seats.{IsSeatOf};
 ghost use Rattle.qs_worker.specs.inner.Leaves.{CanPut, HasFetched, HasPut};
 
-use crate::ranges::LeafRange;
-use qs_core::Work;
+use qs_core::{LeafRange, Work};
 use qs_table::{QsSeat, ResTable};
 
 /// Fetches the blocks of the leaves of a range, in order.

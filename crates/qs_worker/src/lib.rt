@@ -7,7 +7,6 @@ mod desk;
 mod leaves;
 mod looks;
 mod offers;
-mod ranges;
 mod shares;
 mod threads;
 mod trial;
@@ -15,7 +14,6 @@ mod turn;
 mod worker;
 
 pub use crew::{Crew, NoCrew};
-pub use ranges::{LeafRange, ranges_of};
 pub use threads::worker_is_sent;
 pub use turn::Turn;
 pub use worker::{NoWorker, Worker};

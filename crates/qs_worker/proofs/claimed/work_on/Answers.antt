@@ -4,7 +4,7 @@ use Rattle.qs_core.specs.Shape.{task_at}
 use Rattle.qs_core.specs.Steps.{unless_over}
 use Rattle.qs_core.specs.Blocks.{AreApplied, first_leaves, second_leaves}
 use Rattle.qs_worker.specs.inner.Leaves.{CanPut}
-use Rattle.qs_worker.specs.Ranges.{AreLeafRanges}
+use Rattle.qs_core.specs.Ranges.{AreLeafRanges}
 use Rattle.qs_worker.proofs.Working as work
 use Rattle.qs_worker.proofs.claimed.work_on.Given.{Over}
 use Rattle.qs_worker.proofs.claimed.work_on.Goals.{After-apply_to, After-put_leaves, After-ranges_of}

@@ -1,5 +1,5 @@
 use Rattle.std.proofs.Common.{rules}
-use Rattle.qs_worker.proofs.TaskRanges.{more_room}
+use Rattle.qs_worker.proofs.TaskRooms.{more_room}
 use Rattle.qs_worker.proofs.desk.most_leaves.Goals as goal
 
 pub loop-task-preserved : goal.loop-task-preserved

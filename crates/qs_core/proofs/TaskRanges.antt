@@ -1,14 +1,12 @@
 -- The leaves of a task's cells, as ranges that are apart.
-use Rattle.std.proofs.Common.{◌≡◌, ℕ, ◌+◌, ◌-◌, ◌<◌, ◌≤◌, ◌⊎◌, length, Contains, Option, Some, None, sym, ap, inl, inr, ◌∙◌, subst, arith}
+use Rattle.std.proofs.Common.{◌≡◌, ℕ, ◌-◌, ◌<◌, ◌≤◌, ◌⊎◌, length, Contains, Option, Some, None, sym, ap, inl, inr, ◌∙◌, subst, arith}
 use Rattle.std.specs.List.{range_with_len}
-use Rattle.std.proofs.lemmas.Bool.{cases_eq, cases_lt}
-use Rattle.std.proofs.lemmas.List.FromFn.{length-range_with_len}
+use Rattle.std.proofs.lemmas.Bool.{cases_lt}
 use Rattle.lists.proofs.Elements.{Contains-append}
 use Rattle.qs_core.specs.Shape.{Shape, IsShape, Touches, leaves_of, leaves_of_other, range_of, task_at}
 use Rattle.qs_core.specs.Blocks.{first_leaves, second_leaves}
 use Rattle.qs_core.proofs.Below.{in_range}
-use Rattle.qs_worker.specs.inner.Rooms.{HasRoomBelow}
-use Rattle.qs_worker.specs.Ranges.{AreLeafRanges}
+use Rattle.qs_core.specs.Ranges.{AreLeafRanges}
 
 -- two ranges with no number in common
 apart_ranges : (from to from' to' : ℕ) → from < to → from' < to' → ((leaf : ℕ) → from ≤ leaf → leaf < to → from' ≤ leaf → leaf < to' → ⊥) → (to ≤ from') ⊎ (to' ≤ from)
@@ -91,19 +89,3 @@ module _ (shape : Shape) (task from to from' to' : ℕ) (are : AreLeafRanges sha
   pub touches_second : (leaf : ℕ) → from' ≤ leaf → leaf < to' → Touches shape task leaf
   unfolding leaves_of
   touches_second leaf l m = (Contains-append (first_leaves shape task) (second_leaves shape task) leaf).1 (inr (subst (λ xs. Contains xs leaf) (sym are.leaves') ((in_range from' to' leaf).1 (l, m))))
-
--- room for the blocks of one task more
-pub more_room : (shape : Shape) (task from to from' to' firsts seconds firsts' seconds' : ℕ) → AreLeafRanges shape task from to from' to' → HasRoomBelow shape task firsts seconds
-    → firsts ≤ firsts' → to - from ≤ firsts' → seconds ≤ seconds' → to' - from' ≤ seconds' → HasRoomBelow shape (task + 1) firsts' seconds'
-more_room shape task from to from' to' firsts seconds firsts' seconds' are room f n s n' =
-    let long : length (first_leaves shape task) ≡ to - from = ap length are.leaves ∙ length-range_with_len from (to - from) in
-    let long' : length (second_leaves shape task) ≡ to' - from' = ap length are.leaves' ∙ length-range_with_len from' (to' - from') in record {
-      firsts_fit = λ t l. elim (cases_eq t task) [
-        | inl e ↦ let same = ap (λ (k : ℕ). length (first_leaves shape k)) e in omega (arith, same, long, n)
-        | inr o ↦ let fit = room.firsts_fit t (omega arith) in omega (arith, fit, f)
-      ];
-      seconds_fit = λ t l. elim (cases_eq t task) [
-        | inl e ↦ let same = ap (λ (k : ℕ). length (second_leaves shape k)) e in omega (arith, same, long', n')
-        | inr o ↦ let fit = room.seconds_fit t (omega arith) in omega (arith, fit, s)
-      ];
-    }

@@ -1,6 +1,6 @@
 use Rattle.std.proofs.Common.{◌<◌, subst, sym, ◌∙◌}
 use Rattle.qs_core.proofs.Copied.{copied_more}
-use Rattle.qs_core.proofs.layout.ranges_of.Goals as goal
+use Rattle.qs_core.proofs.layout.cell_ranges.Goals as goal
 
 pub loop-cell-preserved : goal.loop-cell-preserved
 loop-cell-preserved g c =

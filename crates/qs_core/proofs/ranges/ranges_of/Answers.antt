@@ -1,7 +1,7 @@
 use Rattle.std.proofs.Common.{ap, ◌∙◌}
-use Rattle.qs_worker.specs.declared.ranges.LeafRange.{LeafRange}
-use Rattle.qs_worker.proofs.TaskRanges.{is_cell, ranges_of_two}
-use Rattle.qs_worker.proofs.ranges.ranges_of.Goals as goal
+use Rattle.qs_core.specs.declared.ranges.LeafRange.{LeafRange}
+use Rattle.qs_core.proofs.TaskRanges.{is_cell, ranges_of_two}
+use Rattle.qs_core.proofs.ranges.ranges_of.Goals as goal
 
 pub leaf_range-requires-in-Some : goal.leaf_range-requires-in-Some
 leaf_range-requires-in-Some g c = is_cell _ c.args.task c.in-Some.cell c.cells_of-first.result c.cells-cells.ensures.laws c.requires.task c.cells_of-first.ensures c.in-Some.is

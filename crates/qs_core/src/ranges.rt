@@ -1,9 +1,9 @@
 //! The leaves of a task, as two ranges.
 ghost use Rattle.std.specs.Prelude.{◌≡◌, ◌<◌, length};
 ghost use Rattle.qs_core.specs.Shape.{IsShape};
-ghost use Rattle.qs_worker.specs.Ranges.{AreLeafRanges};
+ghost use Rattle.qs_core.specs.Ranges.{AreLeafRanges};
 
-use qs_core::Work;
+use crate::work::Work;
 
 /// The leaves below a cell: from one number up to another, which is excluded.
 #[derive(Clone, Copy)]
