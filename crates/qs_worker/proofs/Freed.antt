@@ -15,7 +15,7 @@ use Rattle.qs_core.specs.Shape.{IsEdge, IsShape, Shape, TaskShape, edges_into, n
 use Rattle.qs_core.proofs.Views.{task_at-get_or}
 use Rattle.qs_table.specs.Claims.{AreReleasesOf, freed_in, freed_of}
 use Rattle.qs_table.specs.Notes.{is_release, releases}
-use Rattle.qs_table.proofs.Elems.{length_is_sum}
+use Rattle.lists.proofs.Words.{length_is_sum}
 use Rattle.qs_worker.specs.ReadyLists.{IsFirstTask, IsReadyList, WaitsForNone}
 
 -- a list of different numbers below another is no longer than that
