@@ -17,7 +17,7 @@ use Rattle.qs_worker.specs.declared.turn.Turn.{Turn}
 use Rattle.qs_worker.specs.declared.turn.Turn.TheVariants.{Over, Ran, Idle}
 use Rattle.qs_worker.specs.Turns.{Turned, WorkerView}
 use Rattle.qs_worker.specs.Worked.{AreIdle, AreTurns, HasRun, UntilStop, Worked, joined}
-use Rattle.qs_worker.specs.inner.Idling.{rest_after}
+use Rattle.qs_worker.specs.inner.Idling.{idle_turns_left}
 use Rattle.qs_worker.proofs.Claiming.{is_claimed}
 
 -- how many tasks the seat hasn't claimed
@@ -83,7 +83,7 @@ one_at_end a b c x is = ap (λ (ts : List Turn). ts ++ x ∷ []) is ∙ append_a
 one_stretch : (stretches : List (List Turn)) (stretch : List Turn) → joined (stretches ++ stretch ∷ []) ≡ joined stretches ++ stretch
 one_stretch stretches stretch = flat_map-append (λ (ts : List Turn). ts) stretches (stretch ∷ []) ∙ ap (λ (ts : List Turn). joined stretches ++ ts) (append-nil stretch)
 
-stands_then : (answer : Turn) (answers : List Turn) (left left' : ℕ) → 0 < left → left' ≡ rest_after answer left → Stands left answers → Stands left' (answers ++ answer ∷ [])
+stands_then : (answer : Turn) (answers : List Turn) (left left' : ℕ) → 0 < left → left' ≡ idle_turns_left answer left → Stands left answers → Stands left' (answers ++ answer ∷ [])
 stands_then answer answers left left' some is (inl o) = let none = o.0 in absurd (omega arith)
 stands_then Over answers left left' some is (inr i) =
     let sum = i.sum in
@@ -131,7 +131,7 @@ stopped_then left answers none (inr i) =
 
 module _ {P : Type 0} (shape : Shape) (queues : QueuesView) where
   -- what is left to a worker falls with each turn
-  pub falls : (answer : Turn) (before after : WorkerView P) (left left' : ℕ) → Turned shape queues answer before after → 0 < left → left' ≡ rest_after answer left
+  pub falls : (answer : Turn) (before after : WorkerView P) (left left' : ℕ) → Turned shape queues answer before after → 0 < left → left' ≡ idle_turns_left answer left
       → unclaimed shape after.lock_seat.view.notes * 65536 + left' < unclaimed shape before.lock_seat.view.notes * 65536 + left
   falls Over before after left left' t some is =
       let none : left' ≡ 0 = is in
@@ -163,7 +163,7 @@ module _ {P : Type 0} (shape : Shape) (queues : QueuesView) where
   none_worked v = record { answers = []; turns = refl; stands = inr (record { stretches = []; idle = []; is = refl; each = All-nil (HasRun 65536); are_idle = All-nil (λ (a : Turn). a ≡ Idle); sum = refl }) }
 
   -- one turn more
-  pub one_worked : (answer : Turn) (left left' : ℕ) (a b c : WorkerView P) → Going left a b → Turned shape queues answer b c → 0 < left → left' ≡ rest_after answer left → Going left' a c
+  pub one_worked : (answer : Turn) (left left' : ℕ) (a b c : WorkerView P) → Going left a b → Turned shape queues answer b c → 0 < left → left' ≡ idle_turns_left answer left → Going left' a c
   one_worked answer left left' a b c w t some is = record {
     answers = w.answers ++ answer ∷ [];
     turns = turns_more w.answers answer a b c w.turns t;

@@ -1,15 +1,15 @@
 -- Room for the leaves of each task.
-use Rattle.std.proofs.Common.{◌≡◌, ℕ, ◌+◌, ◌-◌, ◌<◌, ◌≤◌, length, ap, inl, inr, ◌∙◌, arith}
+use Rattle.std.proofs.Common.{◌≡◌, ℕ, ◌+◌, ◌-◌, ◌≤◌, length, ap, inl, inr, ◌∙◌, arith}
 use Rattle.std.proofs.lemmas.Bool.{cases_eq}
 use Rattle.std.proofs.lemmas.List.FromFn.{length-range_with_len}
 use Rattle.qs_core.specs.Shape.{Shape}
 use Rattle.qs_core.specs.Blocks.{first_leaves, second_leaves}
 use Rattle.qs_core.specs.Ranges.{AreLeafRanges}
-use Rattle.qs_worker.specs.inner.Rooms.{HasRoomBelow}
+use Rattle.qs_worker.specs.inner.Rooms.{HasBlockRoomBelow}
 
 -- room for the blocks of one task more
-pub more_room : (shape : Shape) (task from to from' to' firsts seconds firsts' seconds' : ℕ) → AreLeafRanges shape task from to from' to' → HasRoomBelow shape task firsts seconds
-    → firsts ≤ firsts' → to - from ≤ firsts' → seconds ≤ seconds' → to' - from' ≤ seconds' → HasRoomBelow shape (task + 1) firsts' seconds'
+pub more_room : (shape : Shape) (task from to from' to' firsts seconds firsts' seconds' : ℕ) → AreLeafRanges shape task from to from' to' → HasBlockRoomBelow shape task firsts seconds
+    → firsts ≤ firsts' → to - from ≤ firsts' → seconds ≤ seconds' → to' - from' ≤ seconds' → HasBlockRoomBelow shape (task + 1) firsts' seconds'
 more_room shape task from to from' to' firsts seconds firsts' seconds' are room f n s n' =
     let long : length (first_leaves shape task) ≡ to - from = ap length are.leaves ∙ length-range_with_len from (to - from) in
     let long' : length (second_leaves shape task) ≡ to' - from' = ap length are.leaves' ∙ length-range_with_len from' (to' - from') in record {

@@ -1,12 +1,12 @@
 //! Workers: each looks through queues for tasks of a work that it can claim on the lock table, and does those that it claims.
 #![tactic(auto)]
 
+mod buffers;
 mod claimed;
 mod crew;
-mod desk;
 mod leaves;
-mod looks;
 mod offers;
+mod rounds;
 mod shares;
 mod threads;
 mod trial;

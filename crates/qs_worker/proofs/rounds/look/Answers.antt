@@ -1,6 +1,6 @@
 use Rattle.std.proofs.Common.{rules, ◌∙◌}
 use Rattle.qs_worker.proofs.Turning.{has_looked}
-use Rattle.qs_worker.proofs.looks.look.Goals as goal
+use Rattle.qs_worker.proofs.rounds.look.Goals as goal
 
 pub returns-clause-looked : goal.returns-clause-looked
 returns-clause-looked g c =

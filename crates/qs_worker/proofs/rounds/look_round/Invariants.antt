@@ -1,7 +1,7 @@
 use Rattle.std.proofs.Common.{◌≡◌, ◌≤◌, ℕ, None}
 use Rattle.qs_queues.specs.Seats.{IsQueueSeatOf}
 use Rattle.qs_worker.proofs.Looked.{Misses}
-use Rattle.qs_worker.proofs.looks.look_round.Given as goal
+use Rattle.qs_worker.proofs.rounds.look_round.Given as goal
 
 abbrev pub invariant-loop-k : goal.invariant-loop-k
 invariant-loop-k g l =

@@ -4,7 +4,7 @@ ghost use Rattle.qs_core.specs.Core.{empty_view};
 ghost use Rattle.qs_table.specs.Seats.{IsSeatOf};
 ghost use Rattle.qs_queues.specs.Calls.{Noted};
 ghost use Rattle.qs_queues.specs.Seats as queue;
-ghost use Rattle.qs_worker.specs.Looks.{Found};
+ghost use Rattle.qs_worker.specs.Rounds.{Found};
 ghost use Rattle.qs_worker.specs.Refusals.{WasRefused};
 ghost use Rattle.qs_worker.specs.inner.Trials.{HasLooked, since};
 

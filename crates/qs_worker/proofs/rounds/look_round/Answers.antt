@@ -1,7 +1,7 @@
 use Rattle.std.proofs.Common.{◌<◌, ◌+◌, ◌∙◌, ◌%◌, ℕ, inl, inr, ap, subst, arith}
 use Rattle.qs_queues.specs.declared.answers.Scan.{Scan}
 use Rattle.qs_worker.proofs.Looked.{got, is_got, not_got, one_miss}
-use Rattle.qs_worker.proofs.looks.look_round.Goals as goal
+use Rattle.qs_worker.proofs.rounds.look_round.Goals as goal
 
 pub loop-k-preserved : goal.loop-k-preserved
 loop-k-preserved g c =
