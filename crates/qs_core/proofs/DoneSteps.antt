@@ -16,13 +16,23 @@ use Rattle.qs_core.specs.inner.Held.{RunsOn}
 use Rattle.qs_core.proofs.Claims.{claimed_stays}
 use Rattle.qs_core.proofs.Without.{Contains-without, without_keeps}
 use Rattle.qs_core.proofs.LocksLock.{with_lock}
-use Rattle.qs_core.proofs.Played.{runs_some}
 use Rattle.qs_core.proofs.RunningClaim.{claiming}
 use Rattle.qs_core.proofs.RunningKept.{same_words}
 use Rattle.qs_core.proofs.RunningRelease.{claimed_before_release}
 use Rattle.qs_core.proofs.Tasks.{word-other, word-same}
 use Rattle.qs_core.proofs.Views.{IsView-view_at, view_at-changed_other, view_at-changed_same, view_at_is}
 use Rattle.lists.proofs.Counts.{cases_Contains}
+
+-- a task that runs with a leaf left
+pub record IsRunningOn (o : Option Running) (task leaf : ℕ) : Type 0 where
+  pub running : Running
+  pub is : o ≡ Some running
+  pub of_task : running.task ≡ task
+  pub left : Contains running.leaves leaf
+
+pub runs_some : (o : Option Running) (task leaf : ℕ) → RunsOn o task leaf → IsRunningOn o task leaf
+runs_some None task leaf r = absurd r
+runs_some (Some running) task leaf r = record { running = running; is = refl; of_task = r.0; left = r.1 }
 
 -- some view runs the task with the leaf left
 record IsLeft (views : List View) (task leaf : ℕ) : Type 0 where

@@ -2,14 +2,10 @@ pub mod Ancestors
 pub mod Below
 pub mod Chains
 pub mod Claims
-pub mod Copied
 pub mod Without
 pub mod DoneSteps
 pub mod Events
 pub mod Exclusive
-pub mod FamilyMarks
-pub mod FamilyShape
-pub mod Just
 pub mod Locks
 pub mod LocksKept
 pub mod LocksLeaf
@@ -22,7 +18,6 @@ pub mod LocksUnlock
 pub mod Opening
 pub mod Outs
 pub mod Owned
-pub mod Played
 pub mod ReleasedEdges
 pub mod ReturnedRuns
 pub mod Running
@@ -32,7 +27,9 @@ pub mod RunningLeaves
 pub mod RunningRelease
 pub mod RunningReturn
 pub mod Tasks
+pub mod TaskRanges
 pub mod UnreleasedEdges
+pub mod Waiting
 pub mod Walks
 pub mod Views
 pub mod SoundKept

@@ -1,10 +1,10 @@
 pub mod Core
 pub mod Laws
+pub mod Ranges
 pub mod Runs
 pub mod Shape
 pub mod Sound
 pub mod Steps
 pub mod Blocks
 pub mod Machine
-pub mod Family
 pub mod inner

@@ -49,7 +49,7 @@ pub record OwnsAbove (shape : Shape) (view : View) (leaf : ℕ) : Type 0 where
   pub below : IsBelow shape leaf cell
 
 -- a chain of the cell may stand beside those of the view
-pub record HasRoom (shape : Shape) (view : View) (cell : ℕ) : Type 0 where
+pub record AdmitsChain (shape : Shape) (view : View) (cell : ℕ) : Type 0 where
   pub few : length view.chains < 2
   pub complete : (chain : Chain) → Contains view.chains chain → IsComplete shape chain
   pub apart : (owned : ℕ) → Owns shape view owned → AreApart shape owned cell
@@ -61,7 +61,7 @@ pub record IsFree (view : View) : Type 0 where
 
 pub record CanLock (shape : Shape) (view : View) (cell : ℕ) : Type 0 where
   pub is_cell : cell < length shape.parents
-  pub room : HasRoom shape view cell
+  pub room : AdmitsChain shape view cell
   pub free : IsFree view
 
 pub record CanRaise (shape : Shape) (view : View) : Type 0 where

@@ -1,3 +1,2 @@
--- Definitions between private functions, in a public type's view over its private fields: no public clause cites them.
+-- Definitions between private functions, of this crate and of `qs_play`: no public clause cites them.
 pub mod Held
-pub mod Stored

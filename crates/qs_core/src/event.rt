@@ -1,7 +1,4 @@
 //! The events of the machine: each is one step of one seat on one word.
-ghost use Rattle.std.specs.Prelude.{◌≡◌};
-ghost use Rattle.qs_core.specs.Machine.{kind_of};
-ghost use Rattle.qs_core.specs.Steps.{exchanged};
 
 /// The word of a claimed task: no count of edges reaches it.
 pub const CLAIMED: u64 = 1 << 63;
@@ -25,40 +22,6 @@ pub enum Step {
     Claim { task: u32 },
     /// Releases the next successor of the running task.
     Release,
-}
-
-impl Step {
-    /// The kind.
-    pub(crate) fn kind(self) -> StepKind
-        ensures { result ≡ kind_of self }
-    {
-        match self {
-            Step::Lock { .. } => StepKind::Lock,
-            Step::Raise => StepKind::Raise,
-            Step::Lower => StepKind::Lower,
-            Step::Unlock => StepKind::Unlock,
-            Step::Fetch { .. } => StepKind::Fetch,
-            Step::Return { .. } => StepKind::Return,
-            Step::Claim { .. } => StepKind::Claim,
-            Step::Release => StepKind::Release,
-        }
-    }
-
-    /// What the word becomes that the step saw.
-    pub(crate) fn exchanged(self, seen: u64) -> u64
-        ensures { result ≡ exchanged self seen }
-    {
-        match self {
-            Step::Lock { .. } if seen == 0 => 1,
-            Step::Claim { .. } if seen == 0 => CLAIMED,
-            Step::Lock { .. } | Step::Claim { .. } => seen,
-            Step::Raise => seen.wrapping_add(2),
-            Step::Lower => seen.wrapping_sub(2),
-            Step::Unlock | Step::Release => seen.wrapping_sub(1),
-            Step::Fetch { .. } => 1,
-            Step::Return { .. } => 0,
-        }
-    }
 }
 
 /// The kind of a step.

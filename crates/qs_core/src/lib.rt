@@ -1,23 +1,16 @@
-//! The machine of events: locks on cells in a hierarchy, blocks fetched and returned, tasks claimed and released.
+//! What is scheduled, and the machine of events in definitions and laws: locks on cells in a hierarchy, blocks fetched and returned, tasks claimed and released.
 #![tactic(auto)]
 
 mod event;
-pub mod family;
+mod held;
 mod laws;
-mod layout;
-mod player;
-mod seat;
+mod ranges;
 mod start;
-mod state;
 mod work;
 
 pub use event::{CLAIMED, Event, Note, Step, StepKind};
+pub use held::Held;
 pub use laws::{runs_are_sound, steps_are_sound};
-pub use player::play;
-pub use seat::Seat;
+pub use ranges::{LeafRange, ranges_of};
 pub use start::opening_words;
-pub use state::State;
 pub use work::Work;
-
-#[cfg(test)]
-mod tests;

@@ -1,9 +1,7 @@
-//! The opening state: nothing is locked, every leaf is home, and each task waits for the edges into it.
-ghost use Rattle.std.specs.Prelude.{◌≡◌, replicate, IfOk, None};
-ghost use Rattle.qs_core.specs.Core.{empty_view, opening};
+//! The words of the opening state: nothing is locked, every leaf is home, and each task waits for the edges into it.
+ghost use Rattle.std.specs.Prelude.{◌≡◌, IfOk};
+ghost use Rattle.qs_core.specs.Core.{opening};
 
-use crate::event::Note;
-use crate::seat::Seat;
 use crate::work::Work;
 use std::alloc::{AllocError, Global};
 
@@ -17,26 +15,4 @@ pub fn opening_words<W: Work>(alloc: Global, work: &W) -> Result<Vec<u64>, Alloc
         words.push(u64::from(work.waits(task)))?;
     }
     Ok(words)
-}
-
-/// Seats that hold nothing.
-pub fn seats(alloc: Global, count: u32) -> Result<Vec<Seat>, AllocError>
-    ensures { IfOk result (λ v. v.items ≡ replicate count empty_view) }
-{
-    let mut seats = Vec::with_capacity(alloc, count as usize)?;
-    for _seat in 0..count {
-        seats.push(Seat::new(alloc))?;
-    }
-    Ok(seats)
-}
-
-/// No note for any seat.
-pub fn notes(alloc: Global, count: u32) -> Result<Vec<Option<Note>>, AllocError>
-    ensures { IfOk result (λ v. v.items ≡ replicate count None) }
-{
-    let mut notes = Vec::with_capacity(alloc, count as usize)?;
-    for _seat in 0..count {
-        notes.push(None)?;
-    }
-    Ok(notes)
 }

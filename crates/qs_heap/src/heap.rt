@@ -1,9 +1,9 @@
 //! The heap of tasks by their weights.
-ghost use Rattle.std.specs.Prelude.{◌≡◌, ◌≤◌, ◌<◌, ◌+◌, ◌∷◌, ◌++◌, ℕ, None, Some, length, swap_remove, IfOk, IfSome, IfNone, []};
+ghost use Rattle.std.specs.Prelude.{◌≡◌, ◌≤◌, ◌<◌, ◌+◌, ◌∷◌, ◌++◌, ℕ, None, Some, length, swap_remove, IfOk, IfSome, IfNone, MatchOption, []};
 ghost use Rattle.qs_heap.specs.Entries.{AddsEntry, RemovesEntry, entry_at, entry_of};
 ghost use Rattle.qs_heap.specs.Heap.{IsHeap};
 ghost use Rattle.qs_heap.specs.Moves.{MovesInLine};
-ghost use Rattle.qs_heap.specs.Scans.{AllRefused, AreBelow, RefusedBefore, TakesFirst};
+ghost use Rattle.qs_heap.specs.Scans.{AllRefused, AreBelow, RefusedBefore, RoseBy, TakesFirst, TriesOnce};
 
 use crate::entry::Entry;
 use crate::sift::{move_up, settle};
@@ -92,6 +92,7 @@ impl WeightHeap {
             TakesFirst (T.refused trial.new) task self.old.entries self.new.entries) }
         ensures none { IfNone result
             (AllRefused (T.refused trial.new) self.old.entries × (self.new ≡ self.old)) }
+        ensures tried { TriesOnce (T.refused trial.new) result self.old.entries (T.tries trial.old) (T.tries trial.new) }
 
         ensures heap { IsHeap self.new.entries }
         ensures room { self.new.room ≡ self.old.room }
@@ -132,6 +133,8 @@ fn first_taken<T: Trial>(entries: &[Entry], trial: &mut T) -> Option<usize>
         × RefusedBefore (T.refused trial.new) entries.now place) }
     ensures none { IfNone result
         ((T.taken trial.new ≡ None) × AllRefused (T.refused trial.new) entries.now) }
+    ensures tried { MatchOption result (RoseBy (length entries.now) (T.tries trial.old) (T.tries trial.new))
+        (λ place. RoseBy (place + 1) (T.tries trial.old) (T.tries trial.new)) }
     ensures limit { T.limit trial.new ≡ T.limit trial.old }
     ensures origin { T.origin trial.new ≡ T.origin trial.old }
     ensures kept { (other : ℕ) → T.refused trial.old other → T.refused trial.new other }

@@ -12,7 +12,7 @@ use Rattle.qs_queues.specs.Calls.{hold_notes}
 use Rattle.qs_queues.specs.Rule.{IsRightHeap}
 use Rattle.qs_queues.specs.Seats.{IsQueueSeatOf, QueuesView, QueueTokenView}
 use Rattle.qs_queues.specs.Views.{with_note, with_notes}
-use Rattle.qs_queues.specs.inner.Holds.{HasTaken}
+use Rattle.qs_queues.specs.inner.Holds.{GotHeap}
 use Rattle.qs_queues.specs.inner.Plays.{Mine}
 
 -- what a seat has when it brought a heap home
@@ -25,7 +25,7 @@ pub record Holds (queue : ℕ) (before after : Mine) (found left : List Entry) :
 abbrev with_all : QueueView → Option Held → List QueueNote → QueueView
 with_all v held notes = record { room = v.room; tasks = v.tasks; subtractions = v.subtractions; held = held; notes = notes }
 
-pub holds : (queue : ℕ) (m0 m2 m3 : Mine) (heap heap' : Heap) → HasTaken queue m0 heap m2 → m0.0.held ≡ None
+pub holds : (queue : ℕ) (m0 m2 m3 : Mine) (heap heap' : Heap) → GotHeap queue m0 heap m2 → m0.0.held ≡ None
     → ((hold : Held) → m2.0.held ≡ Some hold → m3 ≡ (with_note m2.0 None (Unlocked queue (hold.before + 1) hold.found heap'.entries), [])) → Holds queue m0 m3 heap.entries heap'.entries
 holds queue m0 m2 m3 heap heap' t none brought =
     let view : m2.0 ≡ with_note m0.0 (Some t.hold) (Locked queue 0) = ap (λ (m : Mine). m.0) t.after in
@@ -41,7 +41,7 @@ holds queue m0 m2 m3 heap heap' t none brought =
     }
 
 -- the seat's room and number of tasks are those at the lock
-pub still_right : (queue : ℕ) (m0 m2 : Mine) (heap heap' : Heap) → HasTaken queue m0 heap m2 → IsRightHeap m0.0.room m0.0.tasks heap' → IsRightHeap m2.0.room m2.0.tasks heap'
+pub still_right : (queue : ℕ) (m0 m2 : Mine) (heap heap' : Heap) → GotHeap queue m0 heap m2 → IsRightHeap m0.0.room m0.0.tasks heap' → IsRightHeap m2.0.room m2.0.tasks heap'
 still_right queue m0 m2 heap heap' t right =
     subst (λ (m : Mine). IsRightHeap m.0.room m.0.tasks heap') (sym t.after) right
 

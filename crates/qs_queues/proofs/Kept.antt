@@ -20,7 +20,7 @@ use Rattle.qs_queues.specs.declared.view.QueueView.{QueueView}
 use Rattle.qs_queues.specs.Views.{with_less, with_note}
 use Rattle.qs_queues.specs.Rule.{Fits, Hold, IsChain, IsQueueFree, IsHeld, IsRightHeap, ShowsQueues, holders_of, holds_one, is_unlock, last_left, unlocks_of}
 use Rattle.qs_queues.specs.inner.Plays.{HasLocked, loaded, locked, subtracted, unlocked}
-use Rattle.qs_queues.proofs.Elems.{elem_from_get, get_from_elem, sum_set}
+use Rattle.lists.proofs.Words.{elem_from_get, get_from_elem, sum_set}
 use Rattle.qs_queues.proofs.Histories.{chain_more, held_counts, last_here, last_more, other_counts, right_by}
 
 -- what the first slot that is carried holds

@@ -1,4 +1,3 @@
-pub mod Elems
 pub mod Histories
 pub mod Kept
 pub mod Opened

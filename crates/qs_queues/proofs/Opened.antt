@@ -10,7 +10,7 @@ use Rattle.atomic_table.specs.Table as table
 use Rattle.atomic_table.proofs.Lists.{at_index, at_map, at_snoc, set_again}
 use Rattle.lists.proofs.Elements.{Contains-nil, only}
 use Rattle.lists.proofs.Places.{Contains-from_slice_get}
-use Rattle.qs_queues.proofs.Elems.{get_from_elem}
+use Rattle.lists.proofs.Words.{get_from_elem}
 use Rattle.qs_heap.specs.Heap.{Heap}
 use Rattle.qs_queues.specs.declared.view.QueueView.{QueueView}
 use Rattle.qs_queues.specs.Views.{fresh_view}

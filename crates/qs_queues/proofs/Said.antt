@@ -5,8 +5,8 @@ use Rattle.qs_queues.specs.declared.answers.Push.{Push}
 use Rattle.qs_queues.specs.declared.answers.Push.TheVariants as push
 use Rattle.qs_queues.specs.declared.answers.Scan.{Scan}
 use Rattle.qs_queues.specs.declared.answers.Scan.TheVariants as scan
-use Rattle.qs_queues.specs.Calls.{Noted, SaysPush, SaysScan, hold_notes}
-use Rattle.qs_queues.specs.inner.Holds.{Looks, Puts}
+use Rattle.qs_queues.specs.Calls.{Noted, SaysPush, SaysScan, SaysTries, hold_notes}
+use Rattle.qs_queues.specs.inner.Holds.{Looks, Puts, TriesHeap}
 use Rattle.qs_queues.specs.inner.Plays.{Mine}
 use Rattle.qs_queues.proofs.Holding.{Holds}
 
@@ -40,4 +40,22 @@ scanned refused taken queue scan.AllBusy m0 m3 found left h l = record {
   further = hold_notes queue h.number found left;
   is = h.view;
   said = (l.0, record { number = h.number; found = found; notes_are = ap (hold_notes queue h.number found) l.2; some = l.1; refusals = l.3 });
+}
+
+-- and how often a scan tried
+pub tried : (refused : ℕ → Type 0) (taken : Option ℕ) (queue old new : ℕ) (answer : Scan) (m0 m3 : Mine) (found left : List Entry) → Holds queue m0 m3 found left → Looks refused taken found answer left
+    → TriesHeap refused found answer old new → Noted (SaysTries refused queue answer old new) m0.0 m3.0
+tried refused taken queue old new (scan.Got task) m0 m3 found left h l t = record {
+  further = hold_notes queue h.number found left;
+  is = h.view;
+  said = record { number = h.number; found = found; left = left; notes_are = refl; tried = t };
+}
+tried refused taken queue old new (scan.Held seen) m0 m3 found left h l t = absurd t
+tried refused taken queue old new scan.Empty m0 m3 found left h l t =
+    let said = scanned refused taken queue scan.Empty m0 m3 found left h l in
+    record { further = said.further; is = said.is; said = (t, said.said.1) }
+tried refused taken queue old new scan.AllBusy m0 m3 found left h l t = record {
+  further = hold_notes queue h.number found left;
+  is = h.view;
+  said = record { number = h.number; found = found; left = left; notes_are = refl; tried = t };
 }

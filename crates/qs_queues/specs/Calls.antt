@@ -2,7 +2,7 @@
 use Rattle.std.specs.Prelude.{◌≡◌, ◌≢◌, ℕ, ◌<◌, List, [], ◌∷◌, length, Option, Some, None}
 use Rattle.qs_heap.specs.declared.entry.Entry.{Entry}
 use Rattle.qs_heap.specs.Entries.{AddsEntry}
-use Rattle.qs_heap.specs.Scans.{AllRefused, TakesFirst}
+use Rattle.qs_heap.specs.Scans.{AllRefused, TakesFirst, TriesOnce}
 use Rattle.qs_queues.specs.declared.view.QueueNote.{QueueNote}
 use Rattle.qs_queues.specs.declared.view.QueueNote.TheVariants.{Locked, Unlocked}
 use Rattle.qs_queues.specs.declared.view.QueueView.{QueueView}
@@ -76,3 +76,18 @@ SaysScan refused taken queue (scan.Got task) notes = (taken ≡ Some task) × Wa
 SaysScan refused taken queue (scan.Held seen) notes = (taken ≡ None) × WasHeld queue seen notes
 SaysScan refused taken queue scan.Empty notes = (taken ≡ None) × WasEmpty queue notes
 SaysScan refused taken queue scan.AllBusy notes = (taken ≡ None) × WasAllBusy refused queue notes
+
+-- the entries that a hold found were tried just once each, up to the one that was taken
+pub record TriesFound (refused : ℕ → Type 0) (taken : Option ℕ) (queue old new : ℕ) (notes : List QueueNote) : Type 0 where
+  pub number : ℕ
+  pub found : List Entry
+  pub left : List Entry
+  pub notes_are : notes ≡ hold_notes queue number found left
+  pub tried : TriesOnce refused taken found old new
+
+-- how often a scan tried: not at all where the queue was held or empty
+abbrev pub SaysTries : (ℕ → Type 0) → ℕ → Scan → ℕ → ℕ → List QueueNote → Type 0
+SaysTries refused queue (scan.Got task) old new notes = TriesFound refused (Some task) queue old new notes
+SaysTries refused queue (scan.Held seen) old new notes = (new ≡ old) × WasHeld queue seen notes
+SaysTries refused queue scan.Empty old new notes = (new ≡ old) × WasEmpty queue notes
+SaysTries refused queue scan.AllBusy old new notes = TriesFound refused None queue old new notes

@@ -7,7 +7,7 @@ ghost use Rattle.qs_queues.specs.Rule.{IsRightHeap};
 ghost use Rattle.qs_queues.specs.Views.{with_note};
 ghost use Rattle.qs_queues.specs.declared.view.Held.{Held};
 ghost use Rattle.qs_queues.specs.declared.view.QueueNote.TheVariants.{Unlocked};
-ghost use Rattle.qs_queues.specs.inner.Holds.{HasTaken, IsEmptyHanded, IsTurnedBack, Looks, Puts};
+ghost use Rattle.qs_queues.specs.inner.Holds.{GotHeap, IsEmptyHanded, IsHeldOff, Looks, Puts, TriesHeap};
 
 use crate::answers::{Push, Scan};
 use crate::steps::{HeapSeat, HeapShared, lock, unlock};
@@ -34,8 +34,8 @@ pub(crate) fn take(
     requires queue { (queue < shared.now.key.queues) × (queue < 64) }
     requires none { IsEmptyHanded seat.old.me }
     ensures same { seat.new.table_id ≡ seat.old.table_id }
-    ensures taken { IfOk result (λ heap. HasTaken queue seat.old.me heap seat.new.me) }
-    ensures turned_back { IfErr result (λ seen. IsTurnedBack queue seat.old.me seen seat.new.me) }
+    ensures taken { IfOk result (λ heap. GotHeap queue seat.old.me heap seat.new.me) }
+    ensures held_off { IfErr result (λ seen. IsHeldOff queue seat.old.me seen seat.new.me) }
 {
     let seen = lock(shared, seat, queue);
     if seen != 0 {
@@ -78,6 +78,7 @@ pub(crate) fn look<T: Trial>(heap: &mut WeightHeap, trial: &mut T) -> Scan
     ensures origin { T.origin trial.new ≡ T.origin trial.old }
     ensures kept { (other : ℕ) → T.refused trial.old other → T.refused trial.new other }
     ensures looked { Looks (T.refused trial.new) (T.taken trial.new) heap.old.entries result heap.new.entries }
+    ensures tried { TriesHeap (T.refused trial.new) heap.old.entries result (T.tries trial.old) (T.tries trial.new) }
     ensures right { (room tasks : ℕ) → IsRightHeap room tasks heap.old → IsRightHeap room tasks heap.new }
 {
     if heap.len() == 0 {

@@ -1,7 +1,7 @@
 //! The queues, as threads share them.
 ghost use Rattle.std.specs.Prelude.{◌≡◌, ◌<◌, ◌≤◌, ℕ, [], ◌∷◌, None};
 ghost use Rattle.qs_heap.specs.Entries.{entry_of};
-ghost use Rattle.qs_queues.specs.Calls.{Noted, SaysPush, SaysScan};
+ghost use Rattle.qs_queues.specs.Calls.{Noted, SaysPush, SaysScan, SaysTries};
 ghost use Rattle.qs_queues.specs.Seats.{IsQueueSeatOf};
 ghost use Rattle.qs_queues.specs.Views.{with_less, with_notes};
 ghost use Rattle.qs_queues.specs.declared.view.QueueNote.TheVariants.{Loaded};
@@ -80,6 +80,7 @@ impl Queues {
         requires limit { T.limit trial.old ≡ self.now.tasks }
         ensures seat { IsQueueSeatOf self.now seat.new }
         ensures scanned { Noted (SaysScan (T.refused trial.new) (T.taken trial.new) queue result) seat.old.view seat.new.view }
+        ensures tried { Noted (SaysTries (T.refused trial.new) queue result (T.tries trial.old) (T.tries trial.new)) seat.old.view seat.new.view }
 
         // What the trial was made with stays, and what was refused stays so.
         ensures limit { T.limit trial.new ≡ T.limit trial.old }

@@ -14,6 +14,7 @@ use std::thread::Threads;
 struct Tries {
     tasks: u32,
     takes: bool,
+    tries: u64,
     taken: Option<u32>,
 }
 
@@ -24,6 +25,8 @@ impl Trial for Tries {
 
     ghost refused = { λ trial _. trial.takes ≡ false };
 
+    ghost tries = { λ trial. trial.tries };
+
     ghost limit = { λ trial. trial.tasks };
 
     ghost Origin = { Bool };
@@ -31,6 +34,7 @@ impl Trial for Tries {
     ghost origin = { λ trial. trial.takes };
 
     fn try_take(&mut self, task: u32) -> bool {
+        self.tries = self.tries.wrapping_add(1);
         if self.takes {
             self.taken = Some(task);
         }
@@ -48,6 +52,7 @@ fn scan(queues: &Queues, seat: &mut QueueSeat, queue: u32, tasks: u32, takes: bo
     let mut trial = Tries {
         tasks,
         takes,
+        tries: 0,
         taken: None,
     };
     queues.scan(seat, queue, &mut trial)

@@ -4,8 +4,8 @@ use Rattle.lists.proofs.Elements.{Contains-append}
 use Rattle.qs_core.specs.Shape.{Shape, leaves_of}
 use Rattle.qs_core.specs.Blocks.{first_leaves, second_leaves}
 use Rattle.qs_core.proofs.Below.{in_range}
-use Rattle.qs_worker.specs.Ranges.{AreLeafRanges}
-use Rattle.qs_worker.proofs.TaskRanges.{touches_first, touches_second}
+use Rattle.qs_core.specs.Ranges.{AreLeafRanges}
+use Rattle.qs_core.proofs.TaskRanges.{touches_first, touches_second}
 use Rattle.qs_run.proofs.Cut.{IsCut}
 use Rattle.qs_run.proofs.Turns.{TouchesTwo}
 

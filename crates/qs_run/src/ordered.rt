@@ -5,10 +5,9 @@ ghost use Rattle.qs_run.specs.Blocks.{AreAllDone};
 ghost use Rattle.qs_table.specs.Blocks.{IsClaimedTask};
 ghost use Rattle.qs_run.specs.inner.Steps.{CanDo, IsDoneOn};
 
-use qs_core::Work;
+use qs_core::{Work, ranges_of};
 use qs_gate::Gate;
 use qs_table::Closed;
-use qs_worker::ranges_of;
 
 /// Does each task that wasn't claimed when a table was closed, in the order of their numbers, and passes the gate with each
 /// before, as this worker. The answer is the blocks, in the order of the leaves. It takes no memory.

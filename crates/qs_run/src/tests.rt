@@ -7,7 +7,7 @@ mod gates;
 use crate::tests::free::{FreeTasks, Tally, tallies};
 use crate::tests::gates::{BeforeGate, OrderGate};
 use crate::{finish_rest, run_graph};
-use qs_core::family::{CELLS, Family, Marks, THREE};
+use qs_family::{CELLS, Family, Marks, THREE};
 use qs_gate::{CountGate, Gate};
 use qs_table::ResTable;
 use std::alloc::{AllocError, Global};

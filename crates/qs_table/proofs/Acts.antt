@@ -29,7 +29,7 @@ use Rattle.lists.proofs.Places.{Contains-from_slice_get, slice_get-set_same}
 use Rattle.lists.proofs.Sums.{same_place, share-le}
 use Rattle.qs_table.specs.declared.view.Fetched.{Fetched}
 use Rattle.qs_table.specs.declared.view.SeatView.{SeatView}
-use Rattle.qs_table.specs.Notes.{claims_of, is_claim, is_release, releases_of}
+use Rattle.qs_table.specs.Notes.{claims_of, claims_task, frees_task, frees_of}
 use Rattle.qs_table.specs.Rule.{AreDoneOn, AreOut, AreSeats}
 use Rattle.qs_table.specs.Views.{knows_with, noted}
 use Rattle.qs_table.proofs.Bundles.{Changes, changed_length}
@@ -96,7 +96,7 @@ one_has shape core u v leaf sound is is' c c' =
     same_place (λ (w : View). out_count leaf w.out) core.views u.place v.place u.holds v.holds is.is is'.is (count-pos u.holds.out leaf c) (count-pos v.holds.out leaf c') (sound.locks.leaves.one_out leaf)
 
 -- the note of such a step is no claim and no release
-pub no_claim : (shape : Shape) (v : SeatView) (step : Step) (seen task : ℕ) → LeavesTasks step → is_claim task (noted shape v step seen) ≡ false
+pub no_claim : (shape : Shape) (v : SeatView) (step : Step) (seen task : ℕ) → LeavesTasks step → claims_task task (noted shape v step seen) ≡ false
 no_claim shape v (Lock cell) seen task c = refl
 no_claim shape v Raise seen task c = refl
 no_claim shape v Lower seen task c = refl
@@ -106,7 +106,7 @@ no_claim shape v (Return leaf) seen task c = refl
 no_claim shape v (Claim t) seen task c = absurd c
 no_claim shape v Release seen task c = absurd c
 
-pub no_release : (shape : Shape) (v : SeatView) (step : Step) (seen task : ℕ) → LeavesTasks step → is_release task (noted shape v step seen) ≡ false
+pub no_release : (shape : Shape) (v : SeatView) (step : Step) (seen task : ℕ) → LeavesTasks step → frees_task task (noted shape v step seen) ≡ false
 no_release shape v (Lock cell) seen task c = refl
 no_release shape v Raise seen task c = refl
 no_release shape v Lower seen task c = refl
@@ -260,8 +260,8 @@ module _ (shape : Shape) (laws : IsShape shape) (core : Core) (sound : IsSound s
           let b = sum_by_push (λ (y : Note). cond {A = ℕ} (p y) 1 0) v.notes (noted shape v step seen_at) in
           omega arith
 
-      pub claims_are : (task : ℕ) → is_claim task (noted shape v step seen_at) ≡ false → claims_of task after ≡ claims_of task known
-      claims_are task none = let a = counts_then (is_claim task) in let z : cond {A = ℕ} (is_claim task (noted shape v step seen_at)) 1 0 ≡ 0 = ap (λ (b : Bool). cond {A = ℕ} b 1 0) none in omega arith
+      pub claims_are : (task : ℕ) → claims_task task (noted shape v step seen_at) ≡ false → claims_of task after ≡ claims_of task known
+      claims_are task none = let a = counts_then (claims_task task) in let z : cond {A = ℕ} (claims_task task (noted shape v step seen_at)) 1 0 ≡ 0 = ap (λ (b : Bool). cond {A = ℕ} b 1 0) none in omega arith
 
-      pub releases_are : (task : ℕ) → is_release task (noted shape v step seen_at) ≡ false → releases_of task after ≡ releases_of task known
-      releases_are task none = let a = counts_then (is_release task) in let z : cond {A = ℕ} (is_release task (noted shape v step seen_at)) 1 0 ≡ 0 = ap (λ (b : Bool). cond {A = ℕ} b 1 0) none in omega arith
+      pub releases_are : (task : ℕ) → frees_task task (noted shape v step seen_at) ≡ false → frees_of task after ≡ frees_of task known
+      releases_are task none = let a = counts_then (frees_task task) in let z : cond {A = ℕ} (frees_task task (noted shape v step seen_at)) 1 0 ≡ 0 = ap (λ (b : Bool). cond {A = ℕ} b 1 0) none in omega arith

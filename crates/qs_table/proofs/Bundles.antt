@@ -16,7 +16,7 @@ use Rattle.qs_table.specs.declared.view.SeatView.{SeatView}
 use Rattle.qs_table.specs.Rule.{AreSeats}
 use Rattle.qs_table.specs.Views.{alone, no_seats, seats_in}
 use Rattle.qs_table.specs.inner.Plays.{first_alone, pair, together, without_first}
-use Rattle.qs_table.proofs.Elems.{get_from_elem, length_is_sum, sum_set}
+use Rattle.lists.proofs.Words.{get_from_elem, length_is_sum, sum_set}
 
 -- one seat knows something else
 pub record Changes (before after : List SeatView) (v w : SeatView) : Type 0 where

@@ -10,16 +10,17 @@ use Rattle.atomic_table.proofs.Lists.{set_again}
 use Rattle.lists.proofs.Elements.{Contains-head, Contains-later}
 use Rattle.qs_core.specs.Shape.{Shape}
 use Rattle.qs_core.specs.Core.{Core}
-use Rattle.qs_core.proofs.Exclusive.{owned_apart}
+use Rattle.qs_core.proofs.Exclusive.{owned_apart, sound_is_exclusive}
 use Rattle.qs_table.specs.declared.view.Bundle.{Bundle}
 use Rattle.qs_table.specs.declared.view.SeatView.{SeatView}
-use Rattle.qs_table.specs.Notes.{claims_of, is_claim, is_release, releases_of}
-use Rattle.qs_table.specs.Rule.{AreClaims, AreReleases, IsShown, Shows}
+use Rattle.qs_table.specs.Notes.{claims_of, claims_task, frees_task, frees_of}
+use Rattle.qs_table.specs.Rule.{AreClaims, AreFreedOnce, IsShown, Shows}
+use Rattle.qs_table.specs.Laws.{IsAlwaysApart}
 use Rattle.qs_table.specs.Seats.{OwnApart}
 use Rattle.qs_table.specs.Views.{no_seats, seats_in}
 use Rattle.qs_table.specs.inner.Plays.{Met, first_alone, pair, together, without_first}
 use Rattle.qs_table.proofs.Bundles.{AreSame, in_bundles, pair_apart, same_joined, same_length, same_split}
-use Rattle.qs_table.proofs.Elems.{same_word}
+use Rattle.lists.proofs.Words.{same_word}
 
 -- the seats of one pair are those of the other, where the bundles are one
 same_pair : {P : Type 0} (plan p : P) (v w a b : SeatView) → pair plan v w ≡ pair p a b → (plan ≡ p) × (v ≡ a) × (w ≡ b)
@@ -40,7 +41,7 @@ same_claims shape core known after same claims = record {
       );
 }
 
-pub same_releases : (shape : Shape) (core : Core) (known after : List SeatView) → ((task : ℕ) → releases_of task after ≡ releases_of task known) → AreReleases shape core known → AreReleases shape core after
+pub same_releases : (shape : Shape) (core : Core) (known after : List SeatView) → ((task : ℕ) → frees_of task after ≡ frees_of task known) → AreFreedOnce shape core known → AreFreedOnce shape core after
 same_releases shape core known after same releases = record {
   one = λ task. rw (same task) (releases.one task);
   released = λ task l some. releases.released task l (subst (λ (n : ℕ). 0 < n) (same task) some);
@@ -58,8 +59,8 @@ module _ {B : Type 0} (shape : Shape) (fits : ℕ → B → Type 0) (done : B �
     };
     homes = shown.homes;
     outs = λ v c. shown.outs v (same.back v c);
-    claims = same_claims shape core known after (λ task. same.sums (λ (v : SeatView). count_by (is_claim task) v.notes)) shown.claims;
-    releases = same_releases shape core known after (λ task. same.sums (λ (v : SeatView). count_by (is_release task) v.notes)) shown.releases;
+    claims = same_claims shape core known after (λ task. same.sums (λ (v : SeatView). count_by (claims_task task) v.notes)) shown.claims;
+    releases = same_releases shape core known after (λ task. same.sums (λ (v : SeatView). count_by (frees_task task) v.notes)) shown.releases;
   }
 
   module _ {P : Type 0} (count : ℕ) where
@@ -81,13 +82,20 @@ module _ {B : Type 0} (shape : Shape) (fits : ℕ → B → Type 0) (done : B �
     pub joins : (seat other : ℕ) (b c : Bundle P) → Joins Rule seat b other c (together b c) no_seats
     joins seat other b c s rule at apart at' = same_rule s _ (same_joined s.views seat other b c apart at at') rule
 
-    -- a look changes nothing, and shows that the two seats own cells that are apart
+    -- no two seats own cells of which one contains the other
+    pub always_apart : IsAlwaysApart P shape fits done count
+    always_apart s rule = (
+      sound_is_exclusive shape rule.core rule.laws rule.shown.sound,
+      λ v w first second differ cell other o o'.
+          owned_apart shape rule.core rule.shown.sound.locks.cells v.place w.place v.holds w.holds cell other (rule.shown.seats.each v first) (rule.shown.seats.each w second) differ o o',
+    )
+
+    -- a look changes nothing, and shows it of two seats
     apart_now : (s : State (Option B) (Bundle P)) → Rule s → (seat : ℕ) (plan : P) (v w : SeatView) → get_elem? s.views seat ≡ some (pair plan v w) → OwnApart shape v.holds w.holds
-    apart_now s rule seat plan v w at cell other o o' =
+    apart_now s rule seat plan v w at =
         let first = in_bundles s.views seat (pair plan v w) v at (Contains-head v (w ∷ [])) in
         let second = in_bundles s.views seat (pair plan v w) w at (Contains-later v (w ∷ []) w (Contains-head w [])) in
-        owned_apart shape rule.core rule.shown.sound.locks.cells v.place w.place v.holds w.holds cell other (rule.shown.seats.each v first) (rule.shown.seats.each w second)
-        (pair_apart rule.core s.views seat plan v w rule.shown.seats at) o o'
+        (always_apart s rule).1 v w first second (pair_apart rule.core s.views seat plan v w rule.shown.seats at)
 
     pub meet_allowed : (slots seat : ℕ) (plan : P) (v w : SeatView) (me : Me (Option B) (Bundle P)) (shapes : P → Shape) → shapes plan ≡ shape → me.0 ≡ pair plan v w
         → Allows Rule slots seat me 0 (λ n. n) (Met shapes (table.step slots 0 0 0 none) me)

@@ -11,7 +11,7 @@ use Rattle.qs_table.specs.declared.view.SeatView.{SeatView}
 use Rattle.qs_core.specs.Blocks.{AreFresh}
 use Rattle.qs_table.specs.Blocks.{AreReturned, IsTaken}
 use Rattle.qs_table.specs.inner.Slots.{AreFreshSlots, IsClosed, IsReturned, blocks_in}
-use Rattle.qs_table.proofs.Elems.{elem_or, elem_within, get_from_elem}
+use Rattle.lists.proofs.Words.{elem_or, elem_within, get_from_elem}
 
 -- the places up to one are empty, and those behind it as they were
 pub emptied_more : (fs : List Bool) (i : ℕ) → ((k : ℕ) → k < i → slice_index_or fs k false ≡ false) → (k : ℕ) → k < i + 1 → slice_index_or (slice_set fs i false) k false ≡ false

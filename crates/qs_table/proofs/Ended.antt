@@ -19,14 +19,14 @@ use Rattle.qs_core.specs.Sound.{IsDone, IsView, left_in, outs_of, unreleased}
 use Rattle.qs_table.specs.declared.view.Bundle.{Bundle}
 use Rattle.qs_table.specs.declared.view.SeatView.{SeatView}
 use Rattle.qs_table.specs.Blocks.{AreReturned, IsTaken, open_edges}
-use Rattle.qs_table.specs.Notes.{claims_of, is_claim}
+use Rattle.qs_table.specs.Notes.{claims_of, claims_task}
 use Rattle.qs_table.specs.Rule.{Shows}
 use Rattle.qs_table.specs.Views.{no_seats, seats_in}
 use Rattle.qs_table.specs.inner.Slots.{IsClosed, blocks_in}
 use Rattle.qs_table.specs.inner.Tokens.{HoldsNone}
 use Rattle.qs_table.proofs.Bundles.{bundle_of, sum_in}
 use Rattle.qs_table.proofs.Drained.{returned_blocks}
-use Rattle.qs_table.proofs.Elems.{get_from_elem, length_is_sum, sum_set}
+use Rattle.lists.proofs.Words.{get_from_elem, length_is_sum, sum_set}
 
 none_long : {X : Type 0} (xs : List X) → length xs ≡ 0 → xs ≡ []
 none_long [] e = refl
@@ -65,7 +65,7 @@ module _ {B P : Type 0} (shape : Shape) (fits : ℕ → B → Type 0) (done : B 
     -- and their notes are all notes
     claims_here : (task : ℕ) → claims_of task (seats_in s.views) ≡ claims_of task b.seats
     claims_here task =
-        let f : SeatView → ℕ = λ v. count_by (is_claim task) v.notes in
+        let f : SeatView → ℕ = λ v. count_by (claims_task task) v.notes in
         let g : Bundle P → ℕ = λ (x : Bundle P). sum_by f x.seats in
         let total = sum_set g s.views seat b no_seats at in
         let known = sum_in f s.views in

@@ -13,7 +13,7 @@ use Rattle.qs_table.specs.declared.view.SeatView.{SeatView}
 use Rattle.qs_table.specs.Seats.{IsNewSeat, TableView, TokenView, views_of}
 use Rattle.qs_table.specs.Views.{all_seats, alone, fresh_seat}
 use Rattle.qs_table.specs.inner.Plays.{first_alone, seat_in, without_first}
-use Rattle.qs_table.proofs.Elems.{length_is_sum}
+use Rattle.lists.proofs.Words.{length_is_sum}
 
 module _ {X : Type 0} where
   -- a list that was popped

@@ -17,8 +17,8 @@ use Rattle.qs_core.proofs.Tasks.{LeavesTasks}
 use Rattle.qs_table.specs.declared.view.Bundle.{Bundle}
 use Rattle.qs_table.specs.declared.view.Fetched.{Fetched}
 use Rattle.qs_table.specs.declared.view.SeatView.{SeatView}
-use Rattle.qs_table.specs.Notes.{claims_of, releases_of}
-use Rattle.qs_table.specs.Rule.{AreClaims, AreHomes, AreOut, AreReleases, IsShown, Shows}
+use Rattle.qs_table.specs.Notes.{claims_of, frees_of}
+use Rattle.qs_table.specs.Rule.{AreClaims, AreHomes, AreOut, AreFreedOnce, IsShown, Shows}
 use Rattle.qs_table.specs.Views.{alone, knows_after, knows_with, seats_in}
 use Rattle.qs_table.specs.inner.Plays.{Locked, Moved}
 use Rattle.qs_table.proofs.Acts.{IsCellStep, KeepsLeaves, SlotsStay, claims_are, core_then, keeps_leaves, leaves_tasks, no_claim, no_release, others_out, outs_are, ready_stays, releases_are, same_done, same_out, seats_then, seen_at, sound_then, task_words_stay, view_then}
@@ -57,7 +57,7 @@ module _ {B : Type 0} (shape : Shape) (fits : ℕ → B → Type 0) (done : B �
 
     module _ (after : List SeatView) (change : Changes known after v view_now) (slots' : Slots) where
       -- the state after it is shown, where what is at home, what this seat has noted of its leaves, and the notes of claims and releases are right
-      pub shown_then : AreHomes shape fits done core_now slots' → SlotsStay core v slots slots' → AreOut shape core_now slots' view_now → AreClaims shape core_now after → AreReleases shape core_now after
+      pub shown_then : AreHomes shape fits done core_now slots' → SlotsStay core v slots slots' → AreOut shape core_now slots' view_now → AreClaims shape core_now after → AreFreedOnce shape core_now after
           → IsShown shape fits done core_now slots' after
       shown_then homes stay own claims releases = record {
         sound = sound_then shape laws core shown.sound v is_view step allowed;
@@ -86,9 +86,9 @@ module _ {B : Type 0} (shape : Shape) (fits : ℕ → B → Type 0) (done : B �
                 );
           }
 
-      pub releases_stay : LeavesTasks step → AreReleases shape core_now after
+      pub releases_stay : LeavesTasks step → AreFreedOnce shape core_now after
       releases_stay quiet =
-          let same : (task : ℕ) → releases_of task after ≡ releases_of task known = λ task.
+          let same : (task : ℕ) → frees_of task after ≡ frees_of task known = λ task.
           releases_are shape laws core shown.sound v is_view step allowed fetched hand known after change shown.seats task (no_release shape v step seen_now task quiet) in
           record {
             one = λ task. rw (same task) (shown.releases.one task);

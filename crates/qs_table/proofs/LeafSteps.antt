@@ -28,14 +28,14 @@ use Rattle.qs_table.specs.declared.view.Bundle.{Bundle}
 use Rattle.qs_table.specs.declared.view.Fetched.{Fetched}
 use Rattle.qs_table.specs.declared.view.SeatView.{SeatView}
 use Rattle.qs_table.specs.Leaves.{IsBrought, IsFetched, RunsTask}
-use Rattle.qs_table.specs.Notes.{is_claim, is_release}
+use Rattle.qs_table.specs.Notes.{claims_task, frees_task}
 use Rattle.qs_table.specs.Rule.{AreDoneOn, AreOut, IsHome, IsShown, Shows}
 use Rattle.qs_table.specs.Views.{alone, fetched_with, fetched_without, knows_returned, knows_with, seats_in, with_hand}
-use Rattle.qs_table.specs.inner.Plays.{Brought, HasFetched, LaidDown, TakenUp, Took}
+use Rattle.qs_table.specs.inner.Plays.{Brought, TookBlock, LaidDown, TakenUp, Took}
 use Rattle.qs_table.proofs.Acts.{done_is, event_at, fetched_is_out, one_has, outs_then, same_done, some_has, sound_then, view_is}
 use Rattle.qs_table.proofs.Bundles.{Changes, changed_length, changes}
 use Rattle.qs_table.proofs.Dealt.{same_claims, same_releases}
-use Rattle.qs_table.proofs.Elems.{same_word}
+use Rattle.lists.proofs.Words.{same_word}
 use Rattle.qs_table.proofs.Kept.{change_now, claims_stay, core_now, releases_stay, same_alone, seat_here, seats_now, shown_then, step_kept, view_now}
 
 -- a list of which those with one key are left out
@@ -286,8 +286,8 @@ module _ {B : Type 0} (shape : Shape) (fits : ℕ → B → Type 0) (done : B �
               let was = shown.outs u p.0 in
               record { leaves = was.leaves; tasks = was.tasks; empty = λ f d n. others f.leaf (theirs u f p.0 p.1 d) ∙ was.empty f d n }
         ];
-        claims = same_claims shape core known after (λ task. let s = change.sums (λ (x : SeatView). count_by (is_claim task) x.notes) in omega arith) shown.claims;
-        releases = same_releases shape core known after (λ task. let s = change.sums (λ (x : SeatView). count_by (is_release task) x.notes) in omega arith) shown.releases;
+        claims = same_claims shape core known after (λ task. let s = change.sums (λ (x : SeatView). count_by (claims_task task) x.notes) in omega arith) shown.claims;
+        releases = same_releases shape core known after (λ task. let s = change.sums (λ (x : SeatView). count_by (frees_task task) x.notes) in omega arith) shown.releases;
       }
 
     -- the slot of a leaf at hand is laid down
@@ -350,7 +350,7 @@ module _ {B P : Type 0} (shapes : P → Shape) (fits_of : P → ℕ → B → Ty
           λ p w l m e.
               let same = same_alone plan p v w (sym me_is ∙ m) in
               let leaves = same_leaf p place leaf l same.0 place_is e in
-              subst (λ (x : P × SeatView × ℕ). HasFetched shapes fits_of done x.0 x.1 x.2 me.1 (after 0, (leaf, Some home.block) ∷ me.1)) (λ i. (same.0 i, same.1 i, leaves i))
+              subst (λ (x : P × SeatView × ℕ). TookBlock shapes fits_of done x.0 x.1 x.2 me.1 (after 0, (leaf, Some home.block) ∷ me.1)) (λ i. (same.0 i, same.1 i, leaves i))
               (record { block = home.block; is = refl; fetched = is_fetched shape fits done laws rule.core s.homes (seats_in s.views) rule.shown v here leaf can free }),
         )
 

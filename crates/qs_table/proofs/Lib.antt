@@ -1,4 +1,3 @@
-pub mod Elems
 pub mod Bundles
 pub mod Acts
 pub mod Kept

@@ -21,7 +21,7 @@ use Rattle.qs_core.specs.Core.{empty_view, opening, task_place, word_count}
 use Rattle.qs_core.specs.Sound.{IsClaimed}
 use Rattle.qs_core.proofs.Opening.{none_claimed, opening_is_sound}
 use Rattle.qs_table.specs.declared.view.SeatView.{SeatView}
-use Rattle.qs_table.specs.Notes.{is_claim, is_release}
+use Rattle.qs_table.specs.Notes.{claims_task, frees_task}
 use Rattle.qs_table.specs.Rule.{AreOut, AreSeats, IsShown, Shows}
 use Rattle.qs_table.specs.Views.{all_seats, fresh_seat}
 use Rattle.qs_table.specs.inner.Slots.{AreFreshSlots}
@@ -90,12 +90,12 @@ module _ (count : ℕ) where
             };
             outs = λ v c. subst (AreOut shape (opening shape count) (map some slots)) (sym (fresh_is v c).0) (record { leaves = refl; tasks = λ f d. absurd (Contains-nil f d); empty = λ f d n. absurd (Contains-nil f d) });
             claims = record {
-              one = λ task. let z = none_noted (is_claim task) in omega arith;
-              claimed = λ task l. (λ some. absurd (let z = none_noted (is_claim task) in omega arith), λ c. absurd (none task c));
+              one = λ task. let z = none_noted (claims_task task) in omega arith;
+              claimed = λ task l. (λ some. absurd (let z = none_noted (claims_task task) in omega arith), λ c. absurd (none task c));
             };
             releases = record {
-              one = λ task. let z = none_noted (is_release task) in omega arith;
-              released = λ task l some. absurd (let z = none_noted (is_release task) in omega arith);
+              one = λ task. let z = none_noted (frees_task task) in omega arith;
+              released = λ task l some. absurd (let z = none_noted (frees_task task) in omega arith);
             };
           });
         }

@@ -20,13 +20,13 @@ use Rattle.qs_core.proofs.Tasks.{IsReleasing, IsReleasing-from, word-other, word
 use Rattle.qs_core.proofs.UnreleasedEdges.{unreleased-few}
 use Rattle.qs_table.specs.declared.view.Bundle.{Bundle}
 use Rattle.qs_table.specs.declared.view.SeatView.{SeatView}
-use Rattle.qs_table.specs.Notes.{claims_of, is_claim, is_release, releases_of}
-use Rattle.qs_table.specs.Rule.{AreClaims, AreReleases, IsShown, Shows}
+use Rattle.qs_table.specs.Notes.{claims_of, claims_task, frees_task, frees_of}
+use Rattle.qs_table.specs.Rule.{AreClaims, AreFreedOnce, IsShown, Shows}
 use Rattle.qs_table.specs.Views.{alone, knows_after, noted, seats_in}
 use Rattle.qs_table.specs.inner.Plays.{Asked, HasAsked, IsTaskWord, Released}
 use Rattle.qs_table.proofs.Acts.{claims_are, counts_then, effect_is, is_allowed, ready_stays, releases_are, sound_then, still_claimed, view_is}
 use Rattle.qs_table.proofs.Bundles.{Changes, in_bundles}
-use Rattle.qs_table.proofs.Elems.{elem_within}
+use Rattle.lists.proofs.Words.{elem_within}
 use Rattle.qs_table.proofs.Kept.{change_now, core_now, either_cond, homes_stay, own_stay, same_alone, seat_here, seats_now, shown_then, step_kept, view_now}
 
 -- two tests that both hold, or not
@@ -85,10 +85,10 @@ module _ {B : Type 0} (shape : Shape) (fits : ℕ → B → Type 0) (done : B �
       ]
 
       module _ (after : List SeatView) (change : Changes known after v view_claimed) where
-        more_claims : (t : ℕ) → is_claim t (noted shape v (Claim task) seen) ≡ true → claims_of t after ≡ claims_of t known + 1
+        more_claims : (t : ℕ) → claims_task t (noted shape v (Claim task) seen) ≡ true → claims_of t after ≡ claims_of t known + 1
         more_claims t e =
-            let c = counts_then shape laws core shown.sound v is_view (Claim task) can v.fetched v.hand known after change shown.seats (is_claim t) in
-            let one = counts_one (is_claim t (noted shape v (Claim task) seen)) e in
+            let c = counts_then shape laws core shown.sound v is_view (Claim task) can v.fetched v.hand known after change shown.seats (claims_task t) in
+            let one = counts_one (claims_task t (noted shape v (Claim task) seen)) e in
             omega arith
 
         claims_then : AreClaims shape core_claimed after
@@ -111,9 +111,9 @@ module _ {B : Type 0} (shape : Shape) (fits : ℕ → B → Type 0) (done : B �
           ];
         }
 
-        releases_then : AreReleases shape core_claimed after
+        releases_then : AreFreedOnce shape core_claimed after
         releases_then =
-            let same : (t : ℕ) → releases_of t after ≡ releases_of t known = λ t. releases_are shape laws core shown.sound v is_view (Claim task) can v.fetched v.hand known after change shown.seats t refl in
+            let same : (t : ℕ) → frees_of t after ≡ frees_of t known = λ t. releases_are shape laws core shown.sound v is_view (Claim task) can v.fetched v.hand known after change shown.seats t refl in
             record {
               one = λ t. rw (same t) (shown.releases.one t);
               released = λ t l one_more.
@@ -172,8 +172,8 @@ module _ {B : Type 0} (shape : Shape) (fits : ℕ → B → Type 0) (done : B �
       some_left : 1 ≤ unreleased shape core next
       some_left = subst (λ (n : ℕ). 1 ≤ unreleased shape core n) next_is releasing.unreleased
 
-      none_yet : (t : ℕ) → next ≡ t → releases_of t known ≡ 0
-      none_yet t e = elim (eq-zero-or-pos (releases_of t known)) [
+      none_yet : (t : ℕ) → next ≡ t → frees_of t known ≡ 0
+      none_yet t e = elim (eq-zero-or-pos (frees_of t known)) [
         | inl z ↦ z
         | inr more ↦
             absurd
@@ -199,13 +199,13 @@ module _ {B : Type 0} (shape : Shape) (fits : ℕ → B → Type 0) (done : B �
                   );
             }
 
-        releases_more : AreReleases shape core_released after
+        releases_more : AreFreedOnce shape core_released after
         releases_more = record {
           one = λ t. elim (both_tests next t found 1) [
             | inl p ↦ rw (releases_are shape laws core shown.sound v is_view Release can v.fetched v.hand known after change shown.seats t p.0) (shown.releases.one t)
             | inr p ↦
-                let c = counts_then shape laws core shown.sound v is_view Release can v.fetched v.hand known after change shown.seats (is_release t) in
-                let one = counts_one (is_release t (noted shape v Release found)) p.0 in
+                let c = counts_then shape laws core shown.sound v is_view Release can v.fetched v.hand known after change shown.seats (frees_task t) in
+                let one = counts_one (frees_task t (noted shape v Release found)) p.0 in
                 let z = none_yet t p.1 in
                 omega arith
           ];
@@ -238,11 +238,11 @@ module _ {B P : Type 0} (shapes : P → Shape) (fits_of : P → ℕ → B → Ty
   Rule = Shows shape fits done count
 
   -- a seat of the rule claims and releases each task once
-  own_notes : (s : State (Option B) (Bundle P)) (rule : Rule s) (seat : ℕ) (w : SeatView) → get_elem? s.views seat ≡ some (alone plan w) → (t : ℕ) → (count_by (is_claim t) w.notes ≤ 1) × (count_by (is_release t) w.notes ≤ 1)
+  own_notes : (s : State (Option B) (Bundle P)) (rule : Rule s) (seat : ℕ) (w : SeatView) → get_elem? s.views seat ≡ some (alone plan w) → (t : ℕ) → (count_by (claims_task t) w.notes ≤ 1) × (count_by (frees_task t) w.notes ≤ 1)
   own_notes s rule seat w at t =
       let there = in_bundles s.views seat (alone plan w) w at (Contains-head w []) in
-      let a = share-le (λ (u : SeatView). count_by (is_claim t) u.notes) (seats_in s.views) w there in
-      let b = share-le (λ (u : SeatView). count_by (is_release t) u.notes) (seats_in s.views) w there in
+      let a = share-le (λ (u : SeatView). count_by (claims_task t) u.notes) (seats_in s.views) w there in
+      let b = share-le (λ (u : SeatView). count_by (frees_task t) u.notes) (seats_in s.views) w there in
       let one = rule.shown.claims.one t in
       let one' = rule.shown.releases.one t in
       (omega arith, omega arith)
@@ -293,7 +293,7 @@ module _ {B P : Type 0} (shapes : P → Shape) (fits_of : P → ℕ → B → Ty
               let same = same_alone plan p v w (sym me_is ∙ m) in (
                 λ i. (alone (same.0 i) (knows_after (shapes (same.0 i)) (same.1 i) Release (slice_index s.words place)), me.1),
                 λ k.
-                    subst (λ (x : P × SeatView). count_by (is_release k) (knows_after (shapes x.0) x.1 Release (slice_index s.words place)).notes ≤ 1) (λ i. (same.0 i, same.1 i))
+                    subst (λ (x : P × SeatView). count_by (frees_task k) (knows_after (shapes x.0) x.1 Release (slice_index s.words place)).notes ≤ 1) (λ i. (same.0 i, same.1 i))
                     (own_notes _ moved seat (knows_after shape v Release (slice_index s.words place)) (set_here s.views seat (after place) (elem_within s.views seat me.0 at)) k).1,
               ),
         )

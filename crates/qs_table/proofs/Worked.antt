@@ -6,8 +6,8 @@ use Rattle.qs_core.specs.Shape.{Shape, leaves_of, task_at}
 use Rattle.qs_core.specs.Core.{Running, View, empty_view}
 use Rattle.qs_core.specs.Steps.{CanFetch, CanRelease, started, unless_over, view_after, without}
 use Rattle.qs_core.specs.Blocks.{AreApplied, AreApplicable, first_leaves}
-use Rattle.qs_core.specs.Family.{family}
-use Rattle.qs_core.proofs.FamilyShape.{one_ready}
+use Rattle.qs_family.specs.Family.{family}
+use Rattle.qs_family.proofs.FamilyShape.{one_ready}
 use Rattle.qs_table.specs.declared.view.SeatView.{SeatView}
 use Rattle.qs_table.specs.Claims.{IsOver}
 use Rattle.qs_table.specs.Leaves.{IsBrought, IsFetched, RunsTask}

@@ -1,6 +1,7 @@
 pub mod Views
 pub mod Notes
 pub mod Rule
+pub mod Laws
 pub mod Tries
 pub mod Leaves
 pub mod Claims

@@ -40,20 +40,20 @@ abbrev pub claims : StepKind → Bool
 claims Claim = true
 claims _ = false
 
-abbrev pub is_claim : ℕ → Note → Bool
-is_claim task note = claims note.kind && ((note.cell == task) && (note.seen == 0))
+abbrev pub claims_task : ℕ → Note → Bool
+claims_task task note = claims note.kind && ((note.cell == task) && (note.seen == 0))
 
--- the note releases the last edge into the task: its word was 1
+-- the note frees the task: it releases the last edge into it, whose word was 1
 abbrev pub releases : StepKind → Bool
 releases Release = true
 releases _ = false
 
-abbrev pub is_release : ℕ → Note → Bool
-is_release task note = releases note.kind && ((note.cell == task) && (note.seen == 1))
+abbrev pub frees_task : ℕ → Note → Bool
+frees_task task note = releases note.kind && ((note.cell == task) && (note.seen == 1))
 
--- how many such notes there are in the views of seats
+-- how many notes claim a task, and how many free it, in the views of seats
 abbrev pub claims_of : ℕ → List SeatView → ℕ
-claims_of task seats = sum_by (λ (v : SeatView). count_by (is_claim task) v.notes) seats
+claims_of task seats = sum_by (λ (v : SeatView). count_by (claims_task task) v.notes) seats
 
-abbrev pub releases_of : ℕ → List SeatView → ℕ
-releases_of task seats = sum_by (λ (v : SeatView). count_by (is_release task) v.notes) seats
+abbrev pub frees_of : ℕ → List SeatView → ℕ
+frees_of task seats = sum_by (λ (v : SeatView). count_by (frees_task task) v.notes) seats

@@ -10,7 +10,7 @@ use Rattle.qs_core.specs.Sound.{IsClaimed, IsDone, IsSound, IsView, outs_of, unr
 use Rattle.qs_table.specs.declared.view.Bundle.{Bundle}
 use Rattle.qs_table.specs.declared.view.Fetched.{Fetched}
 use Rattle.qs_table.specs.declared.view.SeatView.{SeatView}
-use Rattle.qs_table.specs.Notes.{claims_of, releases_of}
+use Rattle.qs_table.specs.Notes.{claims_of, frees_of}
 use Rattle.qs_table.specs.Views.{seats_in}
 
 -- the seats are those of the machine: one for each, which holds what the machine's view of it has
@@ -34,10 +34,10 @@ pub record AreClaims (shape : Shape) (core : Core) (known : List SeatView) : Typ
   pub one : (task : ℕ) → claims_of task known ≤ 1
   pub claimed : (task : ℕ) → task < length shape.tasks → (0 < claims_of task known ↔ IsClaimed shape core task)
 
--- for each task at most one note releases the last edge into it, and where one does every edge into it is released
-pub record AreReleases (shape : Shape) (core : Core) (known : List SeatView) : Type 0 where
-  pub one : (task : ℕ) → releases_of task known ≤ 1
-  pub released : (task : ℕ) → task < length shape.tasks → 0 < releases_of task known → unreleased shape core task ≡ 0
+-- for each task at most one note frees it, and where one does every edge into it is released
+pub record AreFreedOnce (shape : Shape) (core : Core) (known : List SeatView) : Type 0 where
+  pub one : (task : ℕ) → frees_of task known ≤ 1
+  pub released : (task : ℕ) → task < length shape.tasks → 0 < frees_of task known → unreleased shape core task ≡ 0
 
 module _ {B : Type 0} (shape : Shape) (fits : ℕ → B → Type 0) (done : B → List ℕ) where
   -- the leaf's block is at home: it fits, and has as done tasks just those done on the leaf
@@ -59,7 +59,7 @@ module _ {B : Type 0} (shape : Shape) (fits : ℕ → B → Type 0) (done : B �
     pub homes : AreHomes core slots
     pub outs : (v : SeatView) → Contains known v → AreOut shape core slots v
     pub claims : AreClaims shape core known
-    pub releases : AreReleases shape core known
+    pub releases : AreFreedOnce shape core known
 
   -- the rule of a table of so many seats
   pub record Shows {P : Type 0} (count : ℕ) (s : State (Option B) (Bundle P)) : Type 0 where

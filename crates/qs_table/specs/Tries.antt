@@ -62,7 +62,7 @@ pub record TriedInOrder (shape : Shape) (task : ℕ) (before after : List Note) 
   pub is : locks_in after ≡ locks_in before ++ take tried (cells_of_task shape task)
 
 -- a try of a task was turned back lawfully, at one of its cells
-pub record IsLegalTask (shape : Shape) (task at seen : ℕ) (before after : List Note) : Type 0 where
+pub record IsLegalBusyTask (shape : Shape) (task at seen : ℕ) (before after : List Note) : Type 0 where
   pub cell : ℕ
   pub of_task : IsCellOf shape task cell
   pub legal : IsLegalBusy shape cell at seen before after
@@ -70,7 +70,7 @@ pub record IsLegalTask (shape : Shape) (task at seen : ℕ) (before after : List
 -- what a try of a task leaves
 abbrev pub TriedTask : Shape → ℕ → SeatView → Try → SeatView → Type 0
 TriedTask shape task before Got after = Stepped before after (with_cells shape before.holds (cells_of_task shape task)) × OwnsJust shape after.holds task
-TriedTask shape task before (Busy at seen) after = Stepped before after before.holds × IsLegalTask shape task at seen before.notes after.notes
+TriedTask shape task before (Busy at seen) after = Stepped before after before.holds × IsLegalBusyTask shape task at seen before.notes after.notes
 
 -- what is left where the newest cell is given back
 pub record Gave (before after : SeatView) : Type 0 where

@@ -1,5 +1,5 @@
 //! What seats know. No value of these types is made: they stand in the proofs alone.
-use qs_core::{Note, Seat};
+use qs_core::{Held, Note};
 use std::collections::LinkedList;
 
 /// A leaf that is out, with the tasks that were done on its block at the fetch.
@@ -13,7 +13,7 @@ pub struct SeatView {
     /// Its number among the seats of the table.
     pub place: u32,
     /// What it holds.
-    pub holds: Seat,
+    pub holds: Held,
     /// The notes of all its steps.
     pub notes: LinkedList<Note>,
     /// The leaves that it has out, the newest first.

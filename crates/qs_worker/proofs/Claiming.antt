@@ -7,8 +7,8 @@ use Rattle.lists.proofs.Elements.{Contains-head}
 use Rattle.qs_core.specs.declared.event.Note.{Note}
 use Rattle.qs_core.specs.declared.event.StepKind.{StepKind}
 use Rattle.qs_core.specs.declared.event.StepKind.TheVariants.{Lock, Raise, Lower, Unlock, Fetch, Return, Claim, Release}
-use Rattle.qs_table.specs.Notes.{claims, is_claim}
-use Rattle.qs_worker.specs.Claims.{claimed_of, claims_in}
+use Rattle.qs_table.specs.Notes.{claims, claims_task}
+use Rattle.qs_worker.specs.Claims.{claimed_of, claimed_in}
 use Rattle.qs_worker.proofs.Freed.{one_released, plus_none}
 
 -- what is claimed, counted by the notes that claim it
@@ -22,15 +22,15 @@ one_claimed task cell seen Return rest = plus_none (count_by (λ t. t == task) r
 one_claimed task cell seen Claim rest = one_released task cell (seen == 0) rest
 one_claimed task cell seen Release rest = plus_none (count_by (λ t. t == task) rest)
 
-claims_count : (task : ℕ) (notes : List Note) → count_by (λ t. t == task) (claims_in notes) ≡ count_by (is_claim task) notes
+claims_count : (task : ℕ) (notes : List Note) → count_by (λ t. t == task) (claimed_in notes) ≡ count_by (claims_task task) notes
 claims_count task [] = refl
 claims_count task (n ∷ ns) =
-    let a = one_claimed task n.cell n.seen n.kind (claims_in ns) in
+    let a = one_claimed task n.cell n.seen n.kind (claimed_in ns) in
     let b = claims_count task ns in
-    let c = sum_by-cons (λ (x : Note). cond {A = ℕ} (is_claim task x) 1 0) n ns in
-    a ∙ ap (λ (m : ℕ). cond {A = ℕ} (is_claim task n) 1 0 + m) b ∙ sym c
+    let c = sum_by-cons (λ (x : Note). cond {A = ℕ} (claims_task task x) 1 0) n ns in
+    a ∙ ap (λ (m : ℕ). cond {A = ℕ} (claims_task task n) 1 0 + m) b ∙ sym c
 
-pub is_claimed : (task : ℕ) (notes : List Note) → claims_in notes ≡ task ∷ [] → 0 < count_by (is_claim task) notes
+pub is_claimed : (task : ℕ) (notes : List Note) → claimed_in notes ≡ task ∷ [] → 0 < count_by (claims_task task) notes
 is_claimed task notes e =
     let counts = ap (λ (ts : List ℕ). count_by (λ t. t == task) ts) e in
     subst (λ (n : ℕ). 0 < n) (sym counts ∙ claims_count task notes) (count-pos (task ∷ []) task (Contains-head task []))

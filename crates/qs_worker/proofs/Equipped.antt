@@ -6,7 +6,7 @@ use Rattle.qs_core.specs.Shape.{IsShape, Shape, task_at}
 use Rattle.qs_core.specs.Core.{empty_view}
 use Rattle.qs_table.specs.Seats.{IsSeatOf, TableView, TokenView}
 use Rattle.qs_worker.specs.ReadyLists.{IsFirstTask, IsReadyList}
-use Rattle.qs_worker.specs.inner.Rooms.{HasRoom, IsEquipped, IsRoom}
+use Rattle.qs_worker.specs.inner.Rooms.{HasBlockRoom, IsEquipped, IsRoom}
 use Rattle.qs_worker.proofs.Freed.{few_ready, few_successors, none_ready, one_ready}
 
 module _ {P B : Type 0} (shape : P → Shape) (table : TableView P) (seat : TokenView P) (first second : List B) (before : List ℕ) (firsts seconds tasks : ℕ) (i : IsEquipped shape seat first second before firsts seconds tasks)
@@ -15,8 +15,8 @@ module _ {P B : Type 0} (shape : P → Shape) (table : TableView P) (seat : Toke
   same_plan = same_Some i.plan table.plan (sym i.plan_is ∙ of.plan_is)
 
   -- the room and the ready list are those for the work of the table
-  pub room_at : HasRoom (shape table.plan) firsts seconds
-  room_at = subst (λ (p : P). HasRoom (shape p) firsts seconds) same_plan i.blocks_fit
+  pub room_at : HasBlockRoom (shape table.plan) firsts seconds
+  room_at = subst (λ (p : P). HasBlockRoom (shape p) firsts seconds) same_plan i.blocks_fit
 
   pub fit_at : 2 * length (shape table.plan).tasks ≤ tasks
   fit_at = subst (λ (p : P). 2 * length (shape p).tasks ≤ tasks) same_plan i.tasks_fit
@@ -42,7 +42,7 @@ module _ {P B : Type 0} (shape : P → Shape) (table : TableView P) (seat : Toke
     plan_is = of'.plan_is;
     first_empty = none;
     second_empty = none';
-    blocks_fit = subst (λ (n : ℕ × ℕ). HasRoom (shape table.plan) n.0 n.1) (λ k. (sym same k, sym same' k)) room_at;
+    blocks_fit = subst (λ (n : ℕ × ℕ). HasBlockRoom (shape table.plan) n.0 n.1) (λ k. (sym same k, sym same' k)) room_at;
     tasks_fit = (let fit = fit_at in omega arith);
     listed = list;
   }

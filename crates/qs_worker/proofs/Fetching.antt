@@ -10,11 +10,11 @@ use Rattle.qs_core.specs.Steps.{CanFetch, MayFetch}
 use Rattle.qs_table.specs.declared.view.SeatView.{SeatView}
 use Rattle.qs_table.specs.Leaves.{IsFetched}
 use Rattle.qs_table.specs.Views.{knows_fetched, noted}
-use Rattle.qs_worker.specs.inner.Leaves.{HasFetched, IsOutReady}
+use Rattle.qs_worker.specs.inner.Leaves.{AreFetched, IsOutReady}
 use Rattle.qs_worker.proofs.Quiet.{kept_twice, quiet_none, quiet_one}
 
 module _ {B : Type 0} (shape : Shape) (fits : ℕ → B → Type 0) (done : B → List ℕ) (from : ℕ) where
-  pub none_fetched : (v : SeatView) → HasFetched shape fits done from v v []
+  pub none_fetched : (v : SeatView) → AreFetched shape fits done from v v []
   none_fetched v = record {
     cells = record { place = refl; chains = refl; notes = quiet_none v.notes };
     running = refl;
@@ -24,7 +24,7 @@ module _ {B : Type 0} (shape : Shape) (fits : ℕ → B → Type 0) (done : B �
     noted = λ f c. c;
   }
 
-  module _ (before v : SeatView) (blocks : List B) (has : HasFetched shape fits done from before v blocks) where
+  module _ (before v : SeatView) (blocks : List B) (has : AreFetched shape fits done from before v blocks) where
     -- a leaf that wasn't fetched may be fetched still
     pub can_still : (leaf : ℕ) → (from ≤ leaf → leaf < from + length blocks → ⊥) → CanFetch shape before.holds leaf → CanFetch shape v.holds leaf
     can_still leaf other can = record {
@@ -58,7 +58,7 @@ module _ {B : Type 0} (shape : Shape) (fits : ℕ → B → Type 0) (done : B �
         ready = o.ready;
       }
 
-      fetched_one : HasFetched shape fits done from before after (blocks ++ block ∷ [])
+      fetched_one : AreFetched shape fits done from before after (blocks ++ block ∷ [])
       fetched_one = record {
         cells = kept_twice before v after has.cells (record { place = refl; chains = refl; notes = quiet_one v.notes (noted shape v (Fetch leaf) 0) refl refl });
         running = has.running;
@@ -79,5 +79,5 @@ module _ {B : Type 0} (shape : Shape) (fits : ℕ → B → Type 0) (done : B �
         noted = λ f c. Contains-later (record { leaf = leaf; done = done block }) v.fetched f (has.noted f c);
       }
 
-      pub one_more : (w : SeatView) (blocks' : List B) → w ≡ knows_fetched shape v leaf (done block) None → blocks' ≡ blocks ++ block ∷ [] → HasFetched shape fits done from before w blocks'
-      one_more w blocks' is are = subst (λ (p : SeatView × List B). HasFetched shape fits done from before p.0 p.1) (λ i. (sym is i, sym are i)) fetched_one
+      pub one_more : (w : SeatView) (blocks' : List B) → w ≡ knows_fetched shape v leaf (done block) None → blocks' ≡ blocks ++ block ∷ [] → AreFetched shape fits done from before w blocks'
+      one_more w blocks' is are = subst (λ (p : SeatView × List B). AreFetched shape fits done from before p.0 p.1) (λ i. (sym is i, sym are i)) fetched_one

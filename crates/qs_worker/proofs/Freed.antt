@@ -14,8 +14,8 @@ use Rattle.qs_core.specs.declared.event.StepKind.TheVariants.{Lock, Raise, Lower
 use Rattle.qs_core.specs.Shape.{IsEdge, IsShape, Shape, TaskShape, edges_into, no_task, task_at}
 use Rattle.qs_core.proofs.Views.{task_at-get_or}
 use Rattle.qs_table.specs.Claims.{AreReleasesOf, freed_in, freed_of}
-use Rattle.qs_table.specs.Notes.{is_release, releases}
-use Rattle.qs_table.proofs.Elems.{length_is_sum}
+use Rattle.qs_table.specs.Notes.{frees_task, releases}
+use Rattle.lists.proofs.Words.{length_is_sum}
 use Rattle.qs_worker.specs.ReadyLists.{IsFirstTask, IsReadyList, WaitsForNone}
 
 -- a list of different numbers below another is no longer than that
@@ -58,13 +58,13 @@ one_freed task cell seen Return rest = plus_none (count_by (λ t. t == task) res
 one_freed task cell seen Claim rest = plus_none (count_by (λ t. t == task) rest)
 one_freed task cell seen Release rest = one_released task cell (seen == 1) rest
 
-pub freed_count : (task : ℕ) (notes : List Note) → count_by (λ t. t == task) (freed_in notes) ≡ count_by (is_release task) notes
+pub freed_count : (task : ℕ) (notes : List Note) → count_by (λ t. t == task) (freed_in notes) ≡ count_by (frees_task task) notes
 freed_count task [] = refl
 freed_count task (n ∷ ns) =
     let a = one_freed task n.cell n.seen n.kind (freed_in ns) in
     let b = freed_count task ns in
-    let c = sum_by-cons (λ (x : Note). cond {A = ℕ} (is_release task x) 1 0) n ns in
-    a ∙ ap (λ (m : ℕ). cond {A = ℕ} (is_release task n) 1 0 + m) b ∙ sym c
+    let c = sum_by-cons (λ (x : Note). cond {A = ℕ} (frees_task task x) 1 0) n ns in
+    a ∙ ap (λ (m : ℕ). cond {A = ℕ} (frees_task task n) 1 0 + m) b ∙ sym c
 
 -- it is among the cells of the notes
 no_release : (b : Bool) → cond {A = ℕ} (b && false) 1 0 ≡ 0
@@ -75,12 +75,12 @@ pub freed_among : (notes : List Note) (task : ℕ) → Contains (freed_in notes)
 freed_among notes task c =
     let some = count-pos (freed_in notes) task c in
     let same = freed_count task notes in
-    let w = some_share (λ (x : Note). cond {A = ℕ} (is_release task x) 1 0) notes (omega arith) in
+    let w = some_share (λ (x : Note). cond {A = ℕ} (frees_task task x) 1 0) notes (omega arith) in
     let x : Note = w.0 in
     elim (cases_eq x.cell task) [
       | inl e ↦ subst (Contains (map (λ (note : Note). note.cell) notes)) e (Contains-map (λ (note : Note). note.cell) notes x w.1)
       | inr n ↦
-          let none : cond {A = ℕ} (is_release task x) 1 0 ≡ 0 = ap (λ (b : Bool). cond {A = ℕ} (releases x.kind && (b && (x.seen == 1))) 1 0) (ne_eqb x.cell task n) ∙ no_release (releases x.kind) in
+          let none : cond {A = ℕ} (frees_task task x) 1 0 ≡ 0 = ap (λ (b : Bool). cond {A = ℕ} (releases x.kind && (b && (x.seen == 1))) 1 0) (ne_eqb x.cell task n) ∙ no_release (releases x.kind) in
           let more = w.2 in
           absurd (omega arith)
     ]
@@ -96,7 +96,7 @@ edge_counts shape before after l edge =
 -- what waits for no other does so still when more notes come
 pub waits_still : (shape : Shape) (old further : List Note) (task : ℕ) → WaitsForNone shape old task → WaitsForNone shape (old ++ further) task
 waits_still shape old further task (inl none) = inl none
-waits_still shape old further task (inr some) = let both = sum_by-append (λ (x : Note). cond {A = ℕ} (is_release task x) 1 0) old further in inr (omega arith)
+waits_still shape old further task (inr some) = let both = sum_by-append (λ (x : Note). cond {A = ℕ} (frees_task task x) 1 0) old further in inr (omega arith)
 
 -- the list of a worker that was made, and with a first task more
 pub none_ready : (shape : Shape) (notes : List Note) → IsReadyList shape notes []
@@ -145,18 +145,18 @@ ready_still shape old further new ready is r = subst (λ (ns : List Note). IsRea
 
 -- a task was done, and those that its releases took to 0 come behind the list
 module _ (shape : Shape) (laws : IsShape shape) (task : ℕ) (within : task < length shape.tasks) (old further : List Note) (kept : List ℕ) (over : AreReleasesOf further (task_at shape task).successors)
-    (once : (t : ℕ) → count_by (is_release t) (old ++ further) ≤ 1) (list : IsReadyList shape old kept) where
+    (once : (t : ℕ) → count_by (frees_task t) (old ++ further) ≤ 1) (list : IsReadyList shape old kept) where
   edge : (t : ℕ) → Contains (freed_in further) t → IsEdge shape task t
   edge t c = subst (λ (ss : List ℕ). Contains ss t) over.1 (freed_among further t c)
 
-  released : (t : ℕ) → Contains (freed_in further) t → 0 < count_by (is_release t) further
+  released : (t : ℕ) → Contains (freed_in further) t → 0 < count_by (frees_task t) further
   released t c = let a = count-pos (freed_in further) t c in let b = freed_count t further in omega arith
 
   more_differ : (t : ℕ) → count_by (λ k. k == t) (kept ++ freed_in further) ≤ 1
   more_differ t =
       let both = sum_by-append (λ (k : ℕ). one_if k t) kept (freed_in further) in
       let same = freed_count t further in
-      let notes = sum_by-append (λ (x : Note). cond {A = ℕ} (is_release t x) 1 0) old further in
+      let notes = sum_by-append (λ (x : Note). cond {A = ℕ} (frees_task t x) 1 0) old further in
       let one = once t in
       let few = list.differ t in
       elim (cases_lt 0 (count_by (λ k. k == t) kept)) [
@@ -180,15 +180,15 @@ module _ (shape : Shape) (laws : IsShape shape) (task : ℕ) (within : task < le
         (All-weaker (WaitsForNone shape old) (WaitsForNone shape (old ++ further)) (λ t w. waits_still shape old further t w) kept list.free)
         (All-from_Contains (WaitsForNone shape (old ++ further)) (freed_in further) (λ t c.
         let some = released t c in
-        let both = sum_by-append (λ (x : Note). cond {A = ℕ} (is_release t x) 1 0) old further in
+        let both = sum_by-append (λ (x : Note). cond {A = ℕ} (frees_task t x) 1 0) old further in
         inr (omega arith)));
   }
 
 -- the same by what is known of a task that was done
 pub done_ready : (shape : Shape) (task : ℕ) (old middle new further : List Note) (kept ready : List ℕ) → IsShape shape → task < length shape.tasks → (rest : List Note) → middle ≡ old ++ rest → new ≡ middle ++ further
-    → AreReleasesOf further (task_at shape task).successors → ready ≡ kept ++ freed_in further → (ready ≡ kept) ⊎ ((t : ℕ) → count_by (is_release t) new ≤ 1) → IsReadyList shape old kept → IsReadyList shape new ready
+    → AreReleasesOf further (task_at shape task).successors → ready ≡ kept ++ freed_in further → (ready ≡ kept) ⊎ ((t : ℕ) → count_by (frees_task t) new ≤ 1) → IsReadyList shape old kept → IsReadyList shape new ready
 done_ready shape task old middle new further kept ready laws within rest quiet is over freed (inl same) list =
     subst (IsReadyList shape new) (sym same) (ready_still shape middle further new kept is (ready_still shape old rest middle kept quiet list))
 done_ready shape task old middle new further kept ready laws within rest quiet is over freed (inr once) list =
     subst (λ (p : List Note × List ℕ). IsReadyList shape p.0 p.1) (λ i. (sym is i, sym freed i))
-    (more_ready shape laws task within middle further kept over (subst (λ (ns : List Note). (t : ℕ) → count_by (is_release t) ns ≤ 1) is once) (ready_still shape old rest middle kept quiet list))
+    (more_ready shape laws task within middle further kept over (subst (λ (ns : List Note). (t : ℕ) → count_by (frees_task t) ns ≤ 1) is once) (ready_still shape old rest middle kept quiet list))

@@ -1,5 +1,5 @@
 pub mod Quiet
-pub mod TaskRanges
+pub mod TaskRooms
 pub mod Fetching
 pub mod Putting
 pub mod Working

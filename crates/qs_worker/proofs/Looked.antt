@@ -10,7 +10,7 @@ use Rattle.qs_queues.specs.declared.view.QueueNote.{QueueNote}
 use Rattle.qs_queues.specs.declared.view.QueueView.{QueueView}
 use Rattle.qs_queues.specs.Calls.{Noted, SaysScan, WasGot}
 use Rattle.qs_queues.specs.Views.{with_notes}
-use Rattle.qs_worker.specs.Looks.{AreLooked, Found, FoundNone, FoundOne, Scanned, TookNone, notes_of_scans}
+use Rattle.qs_worker.specs.Rounds.{AreLooked, Found, FoundNone, FoundOne, Scanned, TookNone, notes_of_scans}
 use Rattle.qs_worker.specs.Offers.{queue_at}
 use Rattle.qs_worker.proofs.Longer.{more_notes, no_notes, snoc_cases}
 

@@ -8,14 +8,14 @@ use Rattle.qs_core.specs.declared.event.StepKind.TheVariants.{Lock, Raise, Lower
 use Rattle.qs_table.specs.declared.view.SeatView.{SeatView}
 use Rattle.qs_table.specs.Claims.{freed_in, freed_of}
 use Rattle.qs_table.specs.Notes.{AreOnCells, Grew, IsCellNote, IsOnCell}
-use Rattle.qs_worker.specs.Claims.{claimed_of, claims_in}
+use Rattle.qs_worker.specs.Claims.{claimed_of, claimed_in}
 use Rattle.qs_worker.specs.inner.Leaves.{GrewClaiming, GrewQuietly, KeptCells}
 
 pub quiet_none : (ns : List Note) → GrewQuietly ns ns
 quiet_none ns = record { further = []; is = sym (append-nil ns); frees_none = refl; claims = refl }
 
 -- what two lists of notes claim, one behind the other
-pub claims-append : (xs ys : List Note) {tasks tasks' : List ℕ} → claims_in xs ≡ tasks → claims_in ys ≡ tasks' → claims_in (xs ++ ys) ≡ tasks ++ tasks'
+pub claims-append : (xs ys : List Note) {tasks tasks' : List ℕ} → claimed_in xs ≡ tasks → claimed_in ys ≡ tasks' → claimed_in (xs ++ ys) ≡ tasks ++ tasks'
 claims-append xs ys e f = filter_map-append (λ (note : Note). claimed_of note.kind note.cell note.seen) xs ys ∙ ap₂ (λ (ts us : List ℕ). ts ++ us) e f
 
 -- quiet notes, and then others
@@ -37,7 +37,7 @@ quiet_then {tasks} a b c g h = record {
 }
 
 -- one note of a step that frees and claims none
-pub quiet_one : (ns : List Note) (note : Note) → freed_in (note ∷ []) ≡ [] → claims_in (note ∷ []) ≡ [] → GrewQuietly ns (ns ++ note ∷ [])
+pub quiet_one : (ns : List Note) (note : Note) → freed_in (note ∷ []) ≡ [] → claimed_in (note ∷ []) ≡ [] → GrewQuietly ns (ns ++ note ∷ [])
 quiet_one ns note none none' = record { further = note ∷ []; is = refl; frees_none = none; claims = none' }
 
 -- a claim that saw another word than 0 claims none
@@ -69,7 +69,7 @@ not_claim Return cell seen c = refl
 not_claim Claim cell seen c = absurd c
 not_claim Release cell seen c = refl
 
-pub none_claimed : (ns : List Note) → AreOnCells ns → claims_in ns ≡ []
+pub none_claimed : (ns : List Note) → AreOnCells ns → claimed_in ns ≡ []
 none_claimed [] a = refl
 none_claimed (n ∷ ns) a = ap₂ (λ o xs. cons_option o xs) (not_claim n.kind n.cell n.seen (All-head IsCellNote n ns a)) (none_claimed ns (All-tail IsCellNote n ns a))
 
@@ -77,7 +77,7 @@ abbrev pub quiet_cells : (a b : List Note) → Grew a b → GrewQuietly a b
 quiet_cells a b g = record { further = g.further; is = g.is; frees_none = none_freed g.further g.on_cells; claims = none_claimed g.further g.on_cells }
 
 -- releases claim none
-pub none_claimed_after : (ns : List Note) → All (λ (note : Note). note.kind ≡ Release) ns → claims_in ns ≡ []
+pub none_claimed_after : (ns : List Note) → All (λ (note : Note). note.kind ≡ Release) ns → claimed_in ns ≡ []
 none_claimed_after [] a = refl
 none_claimed_after (n ∷ ns) a =
     ap₂ (λ o xs. cons_option o xs) (ap (λ (kind : StepKind). claimed_of kind n.cell n.seen) (All-head (λ (note : Note). note.kind ≡ Release) n ns a)) (none_claimed_after ns (All-tail (λ (note : Note). note.kind ≡ Release) n ns a))

@@ -11,21 +11,21 @@ use Rattle.lists.proofs.Ranges.{Contains-numbers}
 use Rattle.lists.proofs.Sums.{sum_by-add, sum_by-le_each}
 use Rattle.qs_core.specs.declared.event.Note.{Note}
 use Rattle.qs_core.specs.Shape.{Shape}
-use Rattle.qs_table.specs.Notes.{is_claim}
+use Rattle.qs_table.specs.Notes.{claims_task}
 use Rattle.qs_queues.specs.Seats.{QueuesView}
 use Rattle.qs_worker.specs.declared.turn.Turn.{Turn}
 use Rattle.qs_worker.specs.declared.turn.Turn.TheVariants.{Over, Ran, Idle}
 use Rattle.qs_worker.specs.Turns.{Turned, WorkerView}
 use Rattle.qs_worker.specs.Worked.{AreIdle, AreTurns, HasRun, UntilStop, Worked, joined}
-use Rattle.qs_worker.specs.inner.Idling.{rest_after}
+use Rattle.qs_worker.specs.inner.Idling.{idle_turns_left}
 use Rattle.qs_worker.proofs.Claiming.{is_claimed}
 
 -- how many tasks the seat hasn't claimed
 abbrev pub unclaimed : Shape → List Note → ℕ
-unclaimed shape notes = sum_by (λ (t : ℕ). one_if (count_by (is_claim t) notes) 0) (range_with_len 0 (length shape.tasks))
+unclaimed shape notes = sum_by (λ (t : ℕ). one_if (count_by (claims_task t) notes) 0) (range_with_len 0 (length shape.tasks))
 
-counts_more : (t : ℕ) (old more : List Note) → count_by (is_claim t) (old ++ more) ≡ count_by (is_claim t) old + count_by (is_claim t) more
-counts_more t old more = sum_by-append (λ (n : Note). cond {A = ℕ} (is_claim t n) 1 0) old more
+counts_more : (t : ℕ) (old more : List Note) → count_by (claims_task t) (old ++ more) ≡ count_by (claims_task t) old + count_by (claims_task t) more
+counts_more t old more = sum_by-append (λ (n : Note). cond {A = ℕ} (claims_task t n) 1 0) old more
 
 fewer_none : (a b c : ℕ) → c ≡ a + b → one_if c 0 ≤ one_if a 0
 fewer_none a b c is = elim (cases_eq a 0) [
@@ -35,23 +35,23 @@ fewer_none a b c is = elim (cases_eq a 0) [
 
 pub no_more : (shape : Shape) (old more new : List Note) → new ≡ old ++ more → unclaimed shape new ≤ unclaimed shape old
 no_more shape old more new is = subst (λ (ns : List Note). unclaimed shape ns ≤ unclaimed shape old) (sym is)
-    (sum_by-le_each (λ (t : ℕ). one_if (count_by (is_claim t) (old ++ more)) 0) (λ (t : ℕ). one_if (count_by (is_claim t) old) 0) (range_with_len 0 (length shape.tasks))
-    (λ t c. fewer_none (count_by (is_claim t) old) (count_by (is_claim t) more) (count_by (is_claim t) (old ++ more)) (counts_more t old more)))
+    (sum_by-le_each (λ (t : ℕ). one_if (count_by (claims_task t) (old ++ more)) 0) (λ (t : ℕ). one_if (count_by (claims_task t) old) 0) (range_with_len 0 (length shape.tasks))
+    (λ t c. fewer_none (count_by (claims_task t) old) (count_by (claims_task t) more) (count_by (claims_task t) (old ++ more)) (counts_more t old more)))
 
 -- a task more was claimed
-module _ (shape : Shape) (task : ℕ) (old more : List Note) (within : task < length shape.tasks) (none : count_by (is_claim task) old ≡ 0) (some : 0 < count_by (is_claim task) more) where
-  each_less : (t : ℕ) → one_if (count_by (is_claim t) (old ++ more)) 0 + one_if t task ≤ one_if (count_by (is_claim t) old) 0
+module _ (shape : Shape) (task : ℕ) (old more : List Note) (within : task < length shape.tasks) (none : count_by (claims_task task) old ≡ 0) (some : 0 < count_by (claims_task task) more) where
+  each_less : (t : ℕ) → one_if (count_by (claims_task t) (old ++ more)) 0 + one_if t task ≤ one_if (count_by (claims_task t) old) 0
   each_less t = elim (cases_eq t task) [
     | inl e ↦
-        let none' = subst (λ (k : ℕ). count_by (is_claim k) old ≡ 0) (sym e) none in
-        let some' = subst (λ (k : ℕ). 0 < count_by (is_claim k) more) (sym e) some in
+        let none' = subst (λ (k : ℕ). count_by (claims_task k) old ≡ 0) (sym e) none in
+        let some' = subst (λ (k : ℕ). 0 < count_by (claims_task k) more) (sym e) some in
         let sum = counts_more t old more in
-        let before = one_if-same (count_by (is_claim t) old) 0 none' in
-        let after = one_if-other (count_by (is_claim t) (old ++ more)) 0 (λ z. omega arith) in
+        let before = one_if-same (count_by (claims_task t) old) 0 none' in
+        let after = one_if-other (count_by (claims_task t) (old ++ more)) 0 (λ z. omega arith) in
         let one = one_if-same t task e in
         omega arith
     | inr n ↦
-        let few = fewer_none (count_by (is_claim t) old) (count_by (is_claim t) more) (count_by (is_claim t) (old ++ more)) (counts_more t old more) in
+        let few = fewer_none (count_by (claims_task t) old) (count_by (claims_task t) more) (count_by (claims_task t) (old ++ more)) (counts_more t old more) in
         let zero = one_if-other t task n in
         omega arith
   ]
@@ -59,8 +59,8 @@ module _ (shape : Shape) (task : ℕ) (old more : List Note) (within : task < le
   one_less : unclaimed shape (old ++ more) < unclaimed shape old
   one_less =
       let range = range_with_len 0 (length shape.tasks) in
-      let all = sum_by-le_each (λ (t : ℕ). one_if (count_by (is_claim t) (old ++ more)) 0 + one_if t task) (λ (t : ℕ). one_if (count_by (is_claim t) old) 0) range (λ t c. each_less t) in
-      let both = sum_by-add (λ (t : ℕ). one_if (count_by (is_claim t) (old ++ more)) 0) (λ (t : ℕ). one_if t task) range in
+      let all = sum_by-le_each (λ (t : ℕ). one_if (count_by (claims_task t) (old ++ more)) 0 + one_if t task) (λ (t : ℕ). one_if (count_by (claims_task t) old) 0) range (λ t c. each_less t) in
+      let both = sum_by-add (λ (t : ℕ). one_if (count_by (claims_task t) (old ++ more)) 0) (λ (t : ℕ). one_if t task) range in
       let one = count-pos range task (Contains-numbers (length shape.tasks) task within) in
       omega (arith, all, both, one)
 
@@ -83,7 +83,7 @@ one_at_end a b c x is = ap (λ (ts : List Turn). ts ++ x ∷ []) is ∙ append_a
 one_stretch : (stretches : List (List Turn)) (stretch : List Turn) → joined (stretches ++ stretch ∷ []) ≡ joined stretches ++ stretch
 one_stretch stretches stretch = flat_map-append (λ (ts : List Turn). ts) stretches (stretch ∷ []) ∙ ap (λ (ts : List Turn). joined stretches ++ ts) (append-nil stretch)
 
-stands_then : (answer : Turn) (answers : List Turn) (left left' : ℕ) → 0 < left → left' ≡ rest_after answer left → Stands left answers → Stands left' (answers ++ answer ∷ [])
+stands_then : (answer : Turn) (answers : List Turn) (left left' : ℕ) → 0 < left → left' ≡ idle_turns_left answer left → Stands left answers → Stands left' (answers ++ answer ∷ [])
 stands_then answer answers left left' some is (inl o) = let none = o.0 in absurd (omega arith)
 stands_then Over answers left left' some is (inr i) =
     let sum = i.sum in
@@ -131,7 +131,7 @@ stopped_then left answers none (inr i) =
 
 module _ {P : Type 0} (shape : Shape) (queues : QueuesView) where
   -- what is left to a worker falls with each turn
-  pub falls : (answer : Turn) (before after : WorkerView P) (left left' : ℕ) → Turned shape queues answer before after → 0 < left → left' ≡ rest_after answer left
+  pub falls : (answer : Turn) (before after : WorkerView P) (left left' : ℕ) → Turned shape queues answer before after → 0 < left → left' ≡ idle_turns_left answer left
       → unclaimed shape after.lock_seat.view.notes * 65536 + left' < unclaimed shape before.lock_seat.view.notes * 65536 + left
   falls Over before after left left' t some is =
       let none : left' ≡ 0 = is in
@@ -163,7 +163,7 @@ module _ {P : Type 0} (shape : Shape) (queues : QueuesView) where
   none_worked v = record { answers = []; turns = refl; stands = inr (record { stretches = []; idle = []; is = refl; each = All-nil (HasRun 65536); are_idle = All-nil (λ (a : Turn). a ≡ Idle); sum = refl }) }
 
   -- one turn more
-  pub one_worked : (answer : Turn) (left left' : ℕ) (a b c : WorkerView P) → Going left a b → Turned shape queues answer b c → 0 < left → left' ≡ rest_after answer left → Going left' a c
+  pub one_worked : (answer : Turn) (left left' : ℕ) (a b c : WorkerView P) → Going left a b → Turned shape queues answer b c → 0 < left → left' ≡ idle_turns_left answer left → Going left' a c
   one_worked answer left left' a b c w t some is = record {
     answers = w.answers ++ answer ∷ [];
     turns = turns_more w.answers answer a b c w.turns t;

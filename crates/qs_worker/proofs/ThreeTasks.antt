@@ -1,9 +1,9 @@
 -- The family with all three tasks, as the tests have it.
 use Rattle.std.proofs.Common.{◌≡◌, ℕ, true, List, [], Contains, length, Some, refl, sym, ap, ◌∙◌, subst, arith}
 use Rattle.lists.proofs.Elements.{Contains-nil}
-use Rattle.qs_core.specs.declared.family.Family.{Family}
+use Rattle.qs_family.specs.declared.family.Family.{Family}
 use Rattle.qs_core.specs.Shape.{Shape}
-use Rattle.qs_core.specs.Family.{family}
+use Rattle.qs_family.specs.Family.{family}
 use Rattle.qs_table.specs.Seats.{IsNewSeat, TableView, TokenView}
 use Rattle.qs_queues.specs.Seats as queue
 use Rattle.qs_worker.specs.ReadyLists.{IsFirstTask}

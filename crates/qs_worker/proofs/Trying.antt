@@ -14,7 +14,7 @@ use Rattle.qs_table.specs.declared.answers.Claim.TheVariants.{Taken, Waiting}
 use Rattle.qs_table.specs.declared.answers.Try.TheVariants.{Busy}
 use Rattle.qs_table.specs.declared.view.SeatView.{SeatView}
 use Rattle.qs_table.specs.Claims.{Answered}
-use Rattle.qs_table.specs.Notes.{is_claim}
+use Rattle.qs_table.specs.Notes.{claims_task}
 use Rattle.qs_table.specs.Seats.{IsIdle}
 use Rattle.qs_table.specs.Tries.{Stepped, TriedTask, cells_of_task, with_cells}
 use Rattle.qs_table.specs.Views.{knows_after, noted}
@@ -49,7 +49,7 @@ module _ (shape : Shape) (task : ℕ) where
     pub claimed_is : (claimed : SeatView) → claimed ≡ knows_after shape got (Step.Claim task) 0 → claimed.holds ≡ claimed_view shape task
     claimed_is claimed e = ap (λ (v : SeatView). v.holds) e ∙ ap (λ (w : View). record w { running = Some (started shape task) }) is
 
-  claims_it : (got : SeatView) → is_claim task (noted shape got (Step.Claim task) 0) ≡ true
+  claims_it : (got : SeatView) → claims_task task (noted shape got (Step.Claim task) 0) ≡ true
   claims_it got = ap (λ (b : Bool). b && true) (eq-eqb task task refl)
 
   -- a claim frees no task
@@ -114,12 +114,12 @@ module _ (shape : Shape) (start now : List Note) {tasks : List ℕ} (grown : Gre
       (refused_more shape grown.further more.further task (subst (λ (ns : List Note). WasRefused shape ns task) (since_is start now grown.further grown.is) r))
 
 -- a claim of the task that is the seat's only one wasn't made before
-new_claim : (task : ℕ) (start front all : List Note) (note : Note) → all ≡ start ++ (front ++ note ∷ []) → is_claim task note ≡ true → count_by (is_claim task) all ≤ 1 → count_by (is_claim task) start ≡ 0
+new_claim : (task : ℕ) (start front all : List Note) (note : Note) → all ≡ start ++ (front ++ note ∷ []) → claims_task task note ≡ true → count_by (claims_task task) all ≤ 1 → count_by (claims_task task) start ≡ 0
 new_claim task start front all note is claims once =
-    let whole = ap (sum_by (λ (n : Note). cond {A = ℕ} (is_claim task n) 1 0)) is in
-    let parts = sum_by-append (λ (n : Note). cond {A = ℕ} (is_claim task n) 1 0) start (front ++ note ∷ []) in
-    let last = sum_by_push (λ (n : Note). cond {A = ℕ} (is_claim task n) 1 0) front note in
-    let one : cond {A = ℕ} (is_claim task note) 1 0 ≡ 1 = ap (λ (b : Bool). cond {A = ℕ} b 1 0) claims in
+    let whole = ap (sum_by (λ (n : Note). cond {A = ℕ} (claims_task task n) 1 0)) is in
+    let parts = sum_by-append (λ (n : Note). cond {A = ℕ} (claims_task task n) 1 0) start (front ++ note ∷ []) in
+    let last = sum_by_push (λ (n : Note). cond {A = ℕ} (claims_task task n) 1 0) front note in
+    let one : cond {A = ℕ} (claims_task task note) 1 0 ≡ 1 = ap (λ (b : Bool). cond {A = ℕ} b 1 0) claims in
     omega arith
 
 module _ (shape : Shape) (start now : SeatView) (taken : Option ℕ) (t : IsTrying shape start now taken) where
@@ -146,8 +146,8 @@ module _ (shape : Shape) (start now : SeatView) (taken : Option ℕ) (t : IsTryi
   takes task new nothing w =
       let h = w.outcome in
       let last = h.front ++ h.claim ∷ [] in
-      let old = ap (sum_by (λ (n : Note). cond {A = ℕ} (is_claim task n) 1 0)) t.grown.is in
-      let parts = sum_by-append (λ (n : Note). cond {A = ℕ} (is_claim task n) 1 0) start.notes t.grown.further in
+      let old = ap (sum_by (λ (n : Note). cond {A = ℕ} (claims_task task n) 1 0)) t.grown.is in
+      let parts = sum_by-append (λ (n : Note). cond {A = ℕ} (claims_task task n) 1 0) start.notes t.grown.further in
       let none = h.new in
       let took : HasTaken shape task start new = record {
         is_task = h.is_task;
@@ -180,7 +180,7 @@ module _ (shape : Shape) (task : ℕ) (before : SeatView) (none : before.holds �
       }
 
   module _ (got : SeatView) (steps : Stepped before got (with_cells shape before.holds (cells_of_task shape task))) where
-    pub claimed_tried : (claimed : SeatView) → task < length shape.tasks → claimed ≡ knows_after shape got (Step.Claim task) 0 → ((k : ℕ) → count_by (is_claim k) claimed.notes ≤ 1) → WasTried shape task before true claimed
+    pub claimed_tried : (claimed : SeatView) → task < length shape.tasks → claimed ≡ knows_after shape got (Step.Claim task) 0 → ((k : ℕ) → count_by (claims_task k) claimed.notes ≤ 1) → WasTried shape task before true claimed
     claimed_tried claimed l e once =
         let front = quiet_cells before.notes got.notes steps.notes in
         let note = noted shape got (Step.Claim task) 0 in

@@ -16,7 +16,7 @@ use Rattle.qs_queues.specs.Seats.{QueuesView}
 use Rattle.qs_queues.specs.Seats as queue
 use Rattle.qs_queues.specs.Views.{with_less, with_notes}
 use Rattle.qs_worker.specs.declared.turn.Turn.TheVariants.{Over, Ran, Idle}
-use Rattle.qs_worker.specs.Looks.{Found}
+use Rattle.qs_worker.specs.Rounds.{Found}
 use Rattle.qs_worker.specs.Offers.{ArePushed}
 use Rattle.qs_worker.specs.Refusals.{WasRefused}
 use Rattle.qs_worker.specs.Turns.{Turned, WasDone, WorkerView, entry_in}

@@ -14,12 +14,12 @@ use Rattle.qs_table.specs.declared.view.SeatView.{SeatView}
 use Rattle.qs_table.specs.Tries.{owned_chain, with_cells}
 use Rattle.qs_table.proofs.TaskTries.{owned_is_complete}
 use Rattle.qs_worker.specs.inner.Claimed.{claimed_view, over_view}
-use Rattle.qs_worker.specs.inner.Leaves.{CanPut, GrewQuietly, HasFetched, HasPut, IsOutReady, IsWorkedOn, KeptCells}
-use Rattle.qs_worker.specs.Ranges.{AreLeafRanges}
+use Rattle.qs_worker.specs.inner.Leaves.{CanPut, GrewQuietly, AreFetched, HasPut, IsOutReady, IsWorkedOn, KeptCells}
+use Rattle.qs_core.specs.Ranges.{AreLeafRanges}
 use Rattle.qs_worker.proofs.Fetching.{can_still}
 use Rattle.qs_worker.proofs.Putting.{runs_on}
 use Rattle.qs_worker.proofs.Quiet.{kept_twice}
-use Rattle.qs_worker.proofs.TaskRanges.{in_one, touches_first, touches_second}
+use Rattle.qs_core.proofs.TaskRanges.{in_one, touches_first, touches_second}
 
 -- the cells of a claimed task are owned
 first_stands : (shape : Shape) (first : ℕ) (second : Option ℕ) → Contains (with_cells shape empty_view (first ∷ option_to_list second)).chains (owned_chain shape first)
@@ -75,13 +75,13 @@ module _ (shape : Shape) (task from to from' to' : ℕ) (are : AreLeafRanges sha
   starts : start.holds.running ≡ Some (started shape task)
   starts = ap (λ (w : View). w.running) claimed
 
-  module _ {B : Type 0} (fits : ℕ → B → Type 0) (done : B → List ℕ) (one : SeatView) (firsts : List B) (has : HasFetched shape fits done from start one firsts) (all : from + length firsts ≡ to) where
+  module _ {B : Type 0} (fits : ℕ → B → Type 0) (done : B → List ℕ) (one : SeatView) (firsts : List B) (has : AreFetched shape fits done from start one firsts) (all : from + length firsts ≡ to) where
     pub can_second : (leaf : ℕ) → from' ≤ leaf → leaf < to' → CanFetch shape one.holds leaf
     can_second leaf l m =
         can_still shape fits done from start one firsts has leaf (λ low high. in_one shape task from to from' to' are leaf low (omega (arith, high, all)) l m)
         (touched_can shape task leaf start claimed (let w = are.within' in omega (arith, w, m)) (touches_second shape task from to from' to' are leaf l m))
 
-    module _ (two : SeatView) (seconds : List B) (has' : HasFetched shape fits done from' one two seconds) (all' : from' + length seconds ≡ to') where
+    module _ (two : SeatView) (seconds : List B) (has' : AreFetched shape fits done from' one two seconds) (all' : from' + length seconds ≡ to') where
       runs : two.holds.running ≡ Some (started shape task)
       runs = has'.running ∙ has.running ∙ starts
 

@@ -14,5 +14,5 @@ claimed_of Claim task seen = claimed_if task seen
 claimed_of _ task seen = None
 
 -- the tasks that such notes claim, in order
-abbrev pub claims_in : List Note → List ℕ
-claims_in notes = filter_map (λ (note : Note). claimed_of note.kind note.cell note.seen) notes
+abbrev pub claimed_in : List Note → List ℕ
+claimed_in notes = filter_map (λ (note : Note). claimed_of note.kind note.cell note.seen) notes

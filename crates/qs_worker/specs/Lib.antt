@@ -1,8 +1,7 @@
-pub mod Ranges
 pub mod Refusals
 pub mod ReadyLists
 pub mod Offers
-pub mod Looks
+pub mod Rounds
 pub mod Claims
 pub mod Turns
 pub mod Worked

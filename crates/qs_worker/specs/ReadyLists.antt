@@ -2,7 +2,7 @@
 use Rattle.std.specs.Prelude.{◌≡◌, ◌==◌, ℕ, ◌<◌, ◌≤◌, ◌⊎◌, List, All, length, count_by}
 use Rattle.qs_core.specs.declared.event.Note.{Note}
 use Rattle.qs_core.specs.Shape.{Shape, edges_into}
-use Rattle.qs_table.specs.Notes.{is_release}
+use Rattle.qs_table.specs.Notes.{frees_task}
 
 -- the task is one of the work's, and no edge goes into it
 pub record IsFirstTask (shape : Shape) (task : ℕ) : Type 0 where
@@ -11,7 +11,7 @@ pub record IsFirstTask (shape : Shape) (task : ℕ) : Type 0 where
 
 -- the task waits for no other: no edge goes into it, or one of these notes is of the release that took it to 0
 abbrev pub WaitsForNone : Shape → List Note → ℕ → Type 0
-WaitsForNone shape notes task = (edges_into shape task ≡ 0) ⊎ (0 < count_by (is_release task) notes)
+WaitsForNone shape notes task = (edges_into shape task ≡ 0) ⊎ (0 < count_by (frees_task task) notes)
 
 -- the tasks of the list are of the work, differ from each other, and wait for no other
 pub record IsReadyList (shape : Shape) (notes : List Note) (ready : List ℕ) : Type 0 where

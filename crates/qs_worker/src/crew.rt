@@ -5,7 +5,7 @@ ghost use Rattle.qs_worker.specs.Crews.{IsNewCrew, IsOn, lock_seats_of};
 ghost use Rattle.qs_worker.specs.Turns.{WorkerView};
 ghost use Rattle.qs_worker.specs.Worked.{Worked};
 
-use crate::desk::most_leaves;
+use crate::buffers::most_leaves;
 use crate::shares::share_out;
 use crate::worker::{NoWorker, Worker};
 use qs_core::Work;

@@ -2,10 +2,9 @@
 ghost use Rattle.std.specs.Prelude.{◌≡◌, ◌+◌, ◌^◌, ◌<◌, ◌≤◌, ℕ, [], List, length, vec_capacity};
 ghost use Rattle.qs_core.specs.Steps.{CanFetch, unless_over};
 ghost use Rattle.qs_table.specs.Seats.{IsSeatOf};
-ghost use Rattle.qs_worker.specs.inner.Leaves.{CanPut, HasFetched, HasPut};
+ghost use Rattle.qs_worker.specs.inner.Leaves.{CanPut, AreFetched, HasPut};
 
-use crate::ranges::LeafRange;
-use qs_core::Work;
+use qs_core::{LeafRange, Work};
 use qs_table::{QsSeat, ResTable};
 
 /// Fetches the blocks of the leaves of a range, in order.
@@ -21,7 +20,7 @@ pub(crate) fn fetch_leaves<W: Work>(
     requires empty { blocks.old.items ≡ [] }
     requires room { range.to ≤ range.from + vec_capacity blocks.old }
     ensures seat { IsSeatOf table.now seat.new }
-    ensures fetched { HasFetched (W.shape table.now.plan) (W.fits table.now.plan) W.done range.from seat.old.view seat.new.view blocks.new.items }
+    ensures fetched { AreFetched (W.shape table.now.plan) (W.fits table.now.plan) W.done range.from seat.old.view seat.new.view blocks.new.items }
     ensures all { range.from + length blocks.new.items ≡ range.to }
     ensures room { vec_capacity blocks.new ≡ vec_capacity blocks.old }
 {

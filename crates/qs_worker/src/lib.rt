@@ -1,13 +1,12 @@
 //! Workers: each looks through queues for tasks of a work that it can claim on the lock table, and does those that it claims.
 #![tactic(auto)]
 
+mod buffers;
 mod claimed;
 mod crew;
-mod desk;
 mod leaves;
-mod looks;
 mod offers;
-mod ranges;
+mod rounds;
 mod shares;
 mod threads;
 mod trial;
@@ -15,7 +14,6 @@ mod turn;
 mod worker;
 
 pub use crew::{Crew, NoCrew};
-pub use ranges::{LeafRange, ranges_of};
 pub use threads::worker_is_sent;
 pub use turn::Turn;
 pub use worker::{NoWorker, Worker};

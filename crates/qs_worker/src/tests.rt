@@ -1,6 +1,6 @@
 //! Workers on the family of four cells, one alone and several in threads.
 ghost use Rattle.std.specs.Prelude.{◌≡◌, ◌≤◌, true, All, IfOk, length};
-ghost use Rattle.qs_core.specs.Family.{family};
+ghost use Rattle.qs_family.specs.Family.{family};
 ghost use Rattle.qs_table.specs.Seats.{IsNewSeat, IsSeatOf};
 ghost use Rattle.qs_queues.specs.Seats as queue;
 ghost use Rattle.qs_worker.specs.Crews.{IsOn};
@@ -10,7 +10,7 @@ mod beside;
 use crate::crew::Crew;
 use crate::turn::Turn;
 use crate::worker::Worker;
-use qs_core::family::{Family, Marks, THREE};
+use qs_family::{Family, Marks, THREE};
 use qs_gate::CountGate;
 use qs_queues::{QueueSeat, Queues};
 use qs_table::{Closed, QsSeat, ResTable};

@@ -46,6 +46,7 @@ pub(crate) struct TaskTrial<'a, W: Work> {
     table: &'a ResTable<W>,
     seat: &'a mut QsSeat<W>,
     taken: Option<u32>,
+    tries: u64,
     start: Snapshot<QsSeat<W>>,
 }
 
@@ -61,6 +62,7 @@ impl<'a, W: Work> Model for TaskTrial<'a, W> {
       now = t.seat.now;
       name = t.seat.ghost_name;
       taken = t.taken;
+      tries = t.tries;
     } };
 
     ghost invariant = { λ t. IsTrial W.shape (record {
@@ -70,6 +72,7 @@ impl<'a, W: Work> Model for TaskTrial<'a, W> {
       now = t.seat.now;
       name = t.seat.ghost_name;
       taken = t.taken;
+      tries = t.tries;
     }) };
 }
 
@@ -94,6 +97,7 @@ impl<'a, W: Work> TaskTrial<'a, W> {
             start: Snapshot::of(&*seat),
             seat,
             taken: None,
+            tries: 0,
         }
     }
 
@@ -121,11 +125,14 @@ impl<'a, W: Work> Trial for TaskTrial<'a, W> {
 
     ghost refused = { λ t task. WasRefused (W.shape t.table.plan) (since t.start.notes t.now.view.notes) task };
 
+    ghost tries = { λ t. t.tries };
+
     ghost limit = { λ t. length (W.shape t.table.plan).tasks };
 
     ghost origin = { λ t. (t.start, t.table, t.plan, t.name) };
 
     fn try_take(&mut self, task: u32) -> bool {
+        self.tries = self.tries.wrapping_add(1);
         if !try_one(self.work, self.table, self.seat, task) {
             return false;
         }

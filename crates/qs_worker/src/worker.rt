@@ -6,13 +6,13 @@ ghost use Rattle.qs_queues.specs.Seats as queue;
 ghost use Rattle.qs_worker.specs.ReadyLists.{IsFirstTask, IsReadyList};
 ghost use Rattle.qs_worker.specs.Turns.{Turned};
 ghost use Rattle.qs_worker.specs.Worked.{Worked};
-ghost use Rattle.qs_worker.specs.inner.Idling.{rest_after};
-ghost use Rattle.qs_worker.specs.inner.Rooms.{HasRoom};
+ghost use Rattle.qs_worker.specs.inner.Idling.{idle_turns_left};
+ghost use Rattle.qs_worker.specs.inner.Rooms.{HasBlockRoom};
 
+use crate::buffers::{Buffers, most_leaves, reserve_buffers};
 use crate::claimed::do_claimed;
-use crate::desk::{Desk, furnish, most_leaves};
-use crate::looks::look;
 use crate::offers::push_ready;
+use crate::rounds::look;
 use crate::turn::Turn;
 use qs_core::Work;
 use qs_gate::Gate;
@@ -32,7 +32,7 @@ pub struct Worker<W: Work> {
     number: u32,
     seat: QsSeat<W>,
     queue_seat: QueueSeat,
-    desk: Desk<W::Block>,
+    buffers: Buffers<W::Block>,
     ready: Vec<u32>,
 }
 
@@ -50,7 +50,7 @@ impl<W: Work> Model for Worker<W> {
       ready = w.ready.items;
     } };
 
-    ghost invariant = { λ w. IsEquipped W.shape w.seat w.desk.first.items w.desk.second.items w.ready.items (vec_capacity w.desk.first) (vec_capacity w.desk.second) (vec_capacity w.ready) };
+    ghost invariant = { λ w. IsEquipped W.shape w.seat w.buffers.first.items w.buffers.second.items w.ready.items (vec_capacity w.buffers.first) (vec_capacity w.buffers.second) (vec_capacity w.ready) };
 }
 
 /// There was no memory for a worker: its seats come back.
@@ -60,19 +60,22 @@ pub struct NoWorker<W: Work> {
     pub queue_seat: QueueSeat,
 }
 
-/// How many more turns in a row may be Idle after a turn, where so many might before it. After an Idle one it yields, so that
-/// other threads may run.
-fn rest_after(answer: Turn, left: u32) -> u32
+/// How many more turns in a row may be Idle after a turn, where so many might before it.
+fn idle_turns_left(answer: Turn, left: u32) -> u32
     requires { 0 < left }
-    ensures { result ≡ rest_after answer left }
+    ensures { result ≡ idle_turns_left answer left }
 {
     match answer {
         Turn::Over => 0,
         Turn::Ran(_) => IDLE_TURNS,
-        Turn::Idle => {
-            thread::yield_now();
-            left - 1
-        }
+        Turn::Idle => left - 1,
+    }
+}
+
+/// Yields after an Idle turn, so that other threads may run. No contract and no test shows that it does.
+fn yield_if_idle(answer: Turn) {
+    if let Turn::Idle = answer {
+        thread::yield_now();
     }
 }
 
@@ -107,16 +110,16 @@ impl<W: Work> Worker<W> {
     ) -> Result<Worker<W>, NoWorker<W>>
         requires plan { seat.plan ≡ Some (W.plan work.now) }
         requires rests { seat.view.holds ≡ empty_view }
-        requires most { HasRoom (W.shape (W.plan work.now)) most.0 most.1 }
+        requires most { HasBlockRoom (W.shape (W.plan work.now)) most.0 most.1 }
         ensures made { IfOk result (λ w. w ≡ record { number = number; lock_seat = seat; queue_seat = queue_seat; ready = [] }) }
         ensures no_worker { IfErr result (λ r. (r.seat ≡ seat) × (r.queue_seat ≡ queue_seat)) }
     {
-        match furnish(alloc, work, most) {
-            Ok((desk, ready)) => Ok(Worker {
+        match reserve_buffers(alloc, work, most) {
+            Ok((buffers, ready)) => Ok(Worker {
                 number,
                 seat,
                 queue_seat,
-                desk,
+                buffers,
                 ready,
             }),
             Err(AllocError) => Err(NoWorker { seat, queue_seat }),
@@ -177,7 +180,7 @@ impl<W: Work> Worker<W> {
                     work,
                     table,
                     &mut self.seat,
-                    &mut self.desk,
+                    &mut self.buffers,
                     &mut self.ready,
                     task,
                 );
@@ -204,7 +207,8 @@ impl<W: Work> Worker<W> {
         let mut left = IDLE_TURNS;
         while left > 0 {
             let answer = self.turn(work, table, queues, gate);
-            left = rest_after(answer, left);
+            yield_if_idle(answer);
+            left = idle_turns_left(answer, left);
         }
     }
 
@@ -217,7 +221,7 @@ impl<W: Work> Worker<W> {
             number: _,
             seat,
             queue_seat,
-            desk: _,
+            buffers: _,
             ready: _,
         } = self;
         (seat, queue_seat)

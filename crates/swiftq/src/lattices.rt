@@ -1,6 +1,6 @@
 //! Generated decks through the top call.
 use crate::tests::{do_job, do_job_past};
-use qs_gate::{CountGate, MeetGate};
+use qs_gate::{CountGate, CrowdGate};
 use sph_snap::{Snapshot, read_stream};
 use sph_top::Status;
 use std::alloc::Global;
@@ -147,7 +147,7 @@ fn several_workers_pass_as_often(rt: HostRuntime) -> Result<(), Fail> {
 fn two_workers_meet(rt: HostRuntime) -> Result<(), Fail> {
     let alloc = rt.alloc();
     let text = generated(&rt, alloc, "generate 8 7")?;
-    let gate = MeetGate::new(1_000_000_000);
+    let gate = CrowdGate::new(2, 10_000_000);
     let run = do_job_past(&rt, alloc, "run --workers 2", text.as_str(), &gate)?;
     assert_eq!(rt; run.status, Status::Done);
     assert!(rt; gate.met());

@@ -3,7 +3,7 @@ use Rattle.std.specs.Prelude.{◌≡◌, ◌≢◌, ℕ, ◌<◌, List, [], ◌�
 use Rattle.qs_heap.specs.declared.entry.Entry.{Entry}
 use Rattle.qs_heap.specs.Entries.{AddsEntry}
 use Rattle.qs_heap.specs.Heap.{Heap}
-use Rattle.qs_heap.specs.Scans.{AllRefused, TakesFirst}
+use Rattle.qs_heap.specs.Scans.{AllRefused, TakesFirst, TriesOnce}
 use Rattle.qs_queues.specs.declared.answers.Push.{Push}
 use Rattle.qs_queues.specs.declared.answers.Push.TheVariants as push
 use Rattle.qs_queues.specs.declared.answers.Scan.{Scan}
@@ -19,7 +19,7 @@ abbrev pub IsEmptyHanded : Mine → Type 0
 IsEmptyHanded me = (me.0.held ≡ None) × (me.1 ≡ [])
 
 -- the seat locked a free queue, and its heap was handed out
-pub record HasTaken (queue : ℕ) (me : Mine) (heap : Heap) (me' : Mine) : Type 0 where
+pub record GotHeap (queue : ℕ) (me : Mine) (heap : Heap) (me' : Mine) : Type 0 where
   pub hold : Held
   pub after : me' ≡ (with_note me.0 (Some hold) (Locked queue 0), (queue, None) ∷ [])
   pub of_queue : hold.queue ≡ queue
@@ -27,7 +27,7 @@ pub record HasTaken (queue : ℕ) (me : Mine) (heap : Heap) (me' : Mine) : Type 
   pub right : IsRightHeap me.0.room me.0.tasks heap
 
 -- the queue was held
-pub record IsTurnedBack (queue : ℕ) (me : Mine) (seen : ℕ) (me' : Mine) : Type 0 where
+pub record IsHeldOff (queue : ℕ) (me : Mine) (seen : ℕ) (me' : Mine) : Type 0 where
   pub seen_is : seen ≡ 1
   pub after : me' ≡ (with_note me.0 me.0.held (Locked queue seen), me.1)
 
@@ -43,3 +43,10 @@ Looks refused taken found (scan.Got task) left = (taken ≡ Some task) × TakesF
 Looks refused taken found (scan.Held seen) left = ⊥
 Looks refused taken found scan.Empty left = (taken ≡ None) × (found ≡ []) × (left ≡ [])
 Looks refused taken found scan.AllBusy left = (taken ≡ None) × (found ≢ []) × (left ≡ found) × AllRefused refused found
+
+-- each entry is tried just once, up to the one that is taken
+abbrev pub TriesHeap : (ℕ → Type 0) → List Entry → Scan → ℕ → ℕ → Type 0
+TriesHeap refused found (scan.Got task) old new = TriesOnce refused (Some task) found old new
+TriesHeap refused found (scan.Held seen) old new = ⊥
+TriesHeap refused found scan.Empty old new = new ≡ old
+TriesHeap refused found scan.AllBusy old new = TriesOnce refused None found old new

@@ -9,7 +9,7 @@ use Rattle.qs_core.specs.Core.{cell_place, claimed_word, leaf_place, task_place}
 use Rattle.qs_table.specs.declared.view.Bundle.{Bundle}
 use Rattle.qs_table.specs.declared.view.SeatView.{SeatView}
 use Rattle.qs_table.specs.Leaves.{IsFetched}
-use Rattle.qs_table.specs.Notes.{is_claim, is_release}
+use Rattle.qs_table.specs.Notes.{claims_task, frees_task}
 use Rattle.qs_table.specs.Seats.{OwnApart}
 use Rattle.qs_table.specs.Views.{alone, fresh_seat, knows_after, knows_fetched, knows_returned, with_hand}
 
@@ -49,7 +49,7 @@ module _ {S P : Type 0} (shape : P → Shape) (st : table.Step S) (me : Me S (Bu
     pub apart : (plan : P) (v w : SeatView) → me.0 ≡ pair plan v w → OwnApart (shape plan) v.holds w.holds
 
 -- the block of a leaf comes to hand
-pub record HasFetched {B P : Type 0} (shape : P → Shape) (fits : P → ℕ → B → Type 0) (done : B → List ℕ) (plan : P) (v : SeatView) (leaf : ℕ) (slots : List (ℕ × Option B)) (me' : Me (Option B) (Bundle P)) : Type 0 where
+pub record TookBlock {B P : Type 0} (shape : P → Shape) (fits : P → ℕ → B → Type 0) (done : B → List ℕ) (plan : P) (v : SeatView) (leaf : ℕ) (slots : List (ℕ × Option B)) (me' : Me (Option B) (Bundle P)) : Type 0 where
   pub block : B
   pub is : me' ≡ (alone plan (knows_fetched (shape plan) v leaf (done block) (Some leaf)), (leaf, Some block) ∷ slots)
   pub fetched : IsFetched (shape plan) (fits plan) done v leaf block
@@ -57,7 +57,7 @@ pub record HasFetched {B P : Type 0} (shape : P → Shape) (fits : P → ℕ →
 module _ {B P : Type 0} (shape : P → Shape) (st : table.Step (Option B)) (me : Me (Option B) (Bundle P)) (found : ℕ) (me' : Me (Option B) (Bundle P)) where
   -- what a fetch tells
   abbrev pub Took : (P → ℕ → B → Type 0) → (B → List ℕ) → Type 0
-  Took fits done = (plan : P) (v : SeatView) (leaf : ℕ) → me.0 ≡ alone plan v → st.word ≡ leaf_place (shape plan) leaf → HasFetched shape fits done plan v leaf me.1 me'
+  Took fits done = (plan : P) (v : SeatView) (leaf : ℕ) → me.0 ≡ alone plan v → st.word ≡ leaf_place (shape plan) leaf → TookBlock shape fits done plan v leaf me.1 me'
 
   -- a look at which the slot at hand goes back, and one at which an emptied slot comes to hand
   abbrev pub LaidDown : Type 0
@@ -78,7 +78,7 @@ IsTaskWord shape word = word ≢ claimed_word → word ≤ length shape.tasks
 pub record HasAsked {S P : Type 0} (shape : P → Shape) (plan : P) (v : SeatView) (task : ℕ) (slots : List (ℕ × S)) (found : ℕ) (me' : Me S (Bundle P)) : Type 0 where
   pub is : me' ≡ (alone plan (knows_after (shape plan) v (Claim task) found), slots)
   pub word : IsTaskWord (shape plan) found
-  pub once : (t : ℕ) → count_by (is_claim t) (knows_after (shape plan) v (Claim task) found).notes ≤ 1
+  pub once : (t : ℕ) → count_by (claims_task t) (knows_after (shape plan) v (Claim task) found).notes ≤ 1
 
 module _ {S P : Type 0} (shape : P → Shape) (st : table.Step S) (me : Me S (Bundle P)) (found : ℕ) (me' : Me S (Bundle P)) where
   -- what a claim tells
@@ -89,4 +89,4 @@ module _ {S P : Type 0} (shape : P → Shape) (st : table.Step S) (me : Me S (Bu
   abbrev pub Released : Type 0
   Released =
       (plan : P) (v : SeatView) → me.0 ≡ alone plan v
-      → (me' ≡ (alone plan (knows_after (shape plan) v Release found), me.1)) × ((t : ℕ) → count_by (is_release t) (knows_after (shape plan) v Release found).notes ≤ 1)
+      → (me' ≡ (alone plan (knows_after (shape plan) v Release found), me.1)) × ((t : ℕ) → count_by (frees_task t) (knows_after (shape plan) v Release found).notes ≤ 1)

@@ -1,6 +1,7 @@
 //! Seats are dealt at a table's making, gathered at its end, and looked at two at a time.
 ghost use Rattle.std.specs.Prelude.{◌≡◌, ◌≤◌, ◌<◌, ℕ, [], All, length, sum_by, vec_capacity};
 ghost use Rattle.qs_table.specs.declared.view.SeatView.{SeatView};
+ghost use Rattle.qs_table.specs.Laws.{IsAlwaysApart};
 ghost use Rattle.qs_table.specs.Seats.{IsIdleSeat, IsNewSeat, IsSeatOf, OwnApart, views_of};
 ghost use Rattle.qs_table.specs.Views.{all_seats};
 ghost use Rattle.qs_table.specs.inner.Plays.{first_alone, pair, together, without_first};
@@ -72,6 +73,12 @@ impl<W: Work> ResTable<W> {
         }
         whole
     }
+
+    /// Does nothing: its contract is the law that at no moment, whoever steps or asks, two seats of the table own cells of
+    /// which one contains the other.
+    pub fn always_apart(&self)
+        ensures { IsAlwaysApart W.Plan (W.shape self.now.plan) (W.fits self.now.plan) W.done self.now.seats }
+    {}
 
     /// No two seats own cells of which one contains the other: of these two it is said here. Nothing changes.
     pub fn own_apart(&self, first: QsSeat<W>, second: QsSeat<W>) -> (QsSeat<W>, QsSeat<W>)

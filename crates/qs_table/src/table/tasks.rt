@@ -5,7 +5,7 @@ ghost use Rattle.qs_core.specs.declared.event.Step.TheVariants as Step;
 ghost use Rattle.qs_core.specs.Core.{Running, task_place};
 ghost use Rattle.qs_core.specs.Steps.{CanClaim, CanRelease, next_successor};
 ghost use Rattle.qs_table.specs.Claims.{Answered, IsOver, freed_if};
-ghost use Rattle.qs_table.specs.Notes.{is_claim, is_release};
+ghost use Rattle.qs_table.specs.Notes.{claims_task, frees_task};
 ghost use Rattle.qs_table.specs.Seats.{IsSeatOf};
 ghost use Rattle.qs_table.specs.Views.{knows_after};
 ghost use Rattle.qs_table.specs.inner.Plays.{IsTaskWord, seat_in};
@@ -45,7 +45,7 @@ impl<W: Work> ResTable<W> {
         ensures knows { seat_in seat.new.me.0 ≡ knows_after (W.shape self.now.plan) (seat_in seat.old.me.0) (Step.Claim task) result }
         ensures slots { seat.new.me.1 ≡ seat.old.me.1 }
         ensures word { IsTaskWord (W.shape self.now.plan) result }
-        ensures once { (t : ℕ) → count_by (is_claim t) (seat_in seat.new.me.0).notes ≤ 1 }
+        ensures once { (t : ℕ) → count_by (claims_task t) (seat_in seat.new.me.0).notes ≤ 1 }
     {
         let word = self.task_word(task);
         self.table
@@ -62,7 +62,7 @@ impl<W: Work> ResTable<W> {
         ensures sits { Sits self.now seat.new }
         ensures knows { seat_in seat.new.me.0 ≡ knows_after (W.shape self.now.plan) (seat_in seat.old.me.0) Step.Release result }
         ensures slots { seat.new.me.1 ≡ seat.old.me.1 }
-        ensures once { (t : ℕ) → count_by (is_release t) (seat_in seat.new.me.0).notes ≤ 1 }
+        ensures once { (t : ℕ) → count_by (frees_task t) (seat_in seat.new.me.0).notes ≤ 1 }
     {
         let word = self.task_word(task);
         self.table.shared.fetch_sub::<Releases<W>>(seat, word, 1)
@@ -78,7 +78,7 @@ impl<W: Work> ResTable<W> {
         ensures sits { Sits self.now seat.new }
         ensures over { IsOver successors.now (seat_in seat.old.me.0) (seat_in seat.new.me.0) ready.old.items ready.new.items }
         ensures slots { seat.new.me.1 ≡ seat.old.me.1 }
-        ensures once { (t : ℕ) → count_by (is_release t) (seat_in seat.new.me.0).notes ≤ 1 }
+        ensures once { (t : ℕ) → count_by (frees_task t) (seat_in seat.new.me.0).notes ≤ 1 }
         ensures room { vec_capacity ready.new ≡ vec_capacity ready.old }
     {
         for k in 0..successors.len() {
@@ -94,7 +94,7 @@ impl<W: Work> ResTable<W> {
         requires can { CanClaim (W.shape self.now.plan) seat.old.view.holds task }
         ensures seat { IsSeatOf self.now seat.new }
         ensures answered { Answered (W.shape self.now.plan) task seat.old.view result seat.new.view }
-        ensures once { (t : ℕ) → count_by (is_claim t) seat.new.view.notes ≤ 1 }
+        ensures once { (t : ℕ) → count_by (claims_task t) seat.new.view.notes ≤ 1 }
     {
         let seen = self.ask(&mut seat.seat, task);
         if seen == 0 {
@@ -116,7 +116,7 @@ impl<W: Work> ResTable<W> {
         requires room { (running : Running) → seat.old.view.holds.running ≡ Some running → length ready.old.items + length running.successors ≤ vec_capacity ready.old }
         ensures seat { IsSeatOf self.now seat.new }
         ensures over { (running : Running) → seat.old.view.holds.running ≡ Some running → IsOver running.successors seat.old.view seat.new.view ready.old.items ready.new.items }
-        ensures once { (t : ℕ) → count_by (is_release t) seat.new.view.notes ≤ 1 }
+        ensures once { (t : ℕ) → count_by (frees_task t) seat.new.view.notes ≤ 1 }
         ensures room { vec_capacity ready.new ≡ vec_capacity ready.old }
     {
         // This call says that the work keeps its laws.

@@ -1,6 +1,6 @@
 //! Tries on the family of four cells, by seats of one thread and of several.
 ghost use Rattle.std.specs.Prelude.{◌≡◌, ◌<◌, ◌≤◌, ◌∷◌, [], true, All, IfOk, length, vec_capacity, None, Some};
-ghost use Rattle.qs_core.specs.Family.{family};
+ghost use Rattle.qs_family.specs.Family.{family};
 ghost use Rattle.qs_core.specs.Steps.{started};
 ghost use Rattle.qs_table.specs.Seats.{IsSeatOf};
 ghost use Rattle.qs_table.specs.Tries.{owned_chain};
@@ -10,7 +10,7 @@ use crate::answers::{Claim, Try};
 use crate::seat::QsSeat;
 use crate::table::ResTable;
 use qs_core::Work;
-use qs_core::family::{CELLS, Family, Marks, THREE};
+use qs_family::{CELLS, Family, Marks, THREE};
 use std::alloc::{AllocError, Global};
 use std::test::Fail;
 use std::thread;
@@ -130,7 +130,7 @@ fn tries_are_turned_back_by_what_is_held(rt: HostRuntime) -> Result<(), Fail> {
 }
 
 #[test]
-fn a_task_that_is_turned_back_holds_nothing(rt: HostRuntime) -> Result<(), Fail> {
+fn a_task_takes_both_its_cells_or_none(rt: HostRuntime) -> Result<(), Fail> {
     let (table, mut holder, mut other) = opened_for_two(rt.alloc(), &THREE)?;
     assert_eq!(rt; table.try_cell(&mut holder, 3), Try::Got);
     assert_eq!(rt;
@@ -138,14 +138,9 @@ fn a_task_that_is_turned_back_holds_nothing(rt: HostRuntime) -> Result<(), Fail>
         Try::Busy { cell: 3, seen: 1 }
     );
     assert_eq!(rt; words(&table), [2, 2, 0, 1]);
-    Ok(())
-}
-
-#[test]
-fn a_task_takes_both_its_cells(rt: HostRuntime) -> Result<(), Fail> {
-    let (table, mut seat, _other) = opened_for_two(rt.alloc(), &THREE)?;
-    assert_eq!(rt; table.try_task(&THREE, &mut seat, 2), Try::Got);
-    assert_eq!(rt; words(&table), [4, 4, 1, 1]);
+    let (fresh, mut seat, _rest) = opened_for_two(rt.alloc(), &THREE)?;
+    assert_eq!(rt; fresh.try_task(&THREE, &mut seat, 2), Try::Got);
+    assert_eq!(rt; words(&fresh), [4, 4, 1, 1]);
     Ok(())
 }
 
@@ -156,32 +151,6 @@ fn two_seats_own_cells_that_are_apart(rt: HostRuntime) -> Result<(), Fail> {
     assert_eq!(rt; table.try_cell(&mut second, 3), Try::Got);
     let (_first, _second) = table.own_apart(first, second);
     assert_eq!(rt; words(&table), [4, 4, 1, 1]);
-    Ok(())
-}
-
-/// Gets cell 2, fetches the block of its leaf, and puts it back as it was.
-fn looks_at_a_block(table: &ResTable<Family>, seat: &mut QsSeat<Family>) -> Option<Marks>
-    requires { IsEmptySeat table.now seat.old }
-    ensures { IsEmptySeat table.now seat.new }
-{
-    match table.try_cell(seat, 2) {
-        Try::Got => {
-            let block = table.fetch(seat, 0);
-            table.put_back(seat, 0, block);
-            table.give_cell(seat);
-            Some(block)
-        }
-        Try::Busy { .. } => None,
-    }
-}
-
-#[test]
-fn a_block_is_fetched_and_put_back(rt: HostRuntime) -> Result<(), Fail> {
-    let (table, mut first, mut second) = opened_for_two(rt.alloc(), &CELLS)?;
-    let none_done = Marks::of(false, false, false);
-    assert_eq!(rt; looks_at_a_block(&table, &mut first), Some(none_done));
-    assert_eq!(rt; looks_at_a_block(&table, &mut second), Some(none_done));
-    assert_eq!(rt; words(&table), [0, 0, 0, 0]);
     Ok(())
 }
 
@@ -285,19 +254,13 @@ fn try_in_threads<R: Threads + Sync>(rt: &R, table: &ResTable<Family>, seats: &m
 
 #[test]
 fn seats_in_threads_leave_the_words_at_0(rt: HostRuntime) -> Result<(), Fail> {
-    let (table, mut seats) = opened(rt.alloc(), &CELLS, 4)?;
+    let (table, mut seats) = opened(rt.alloc(), &THREE, 4)?;
     try_in_threads(&rt, &table, seats.as_mut_slice());
+    table.always_apart();
     assert_eq!(rt; words(&table), [0, 0, 0, 0]);
-    let closed = table.close(seats);
-    assert_eq!(rt; closed.into_blocks().len(), 2);
-    Ok(())
-}
-
-#[test]
-fn a_closed_table_gives_its_blocks(rt: HostRuntime) -> Result<(), Fail> {
-    let (table, seats) = opened(rt.alloc(), &THREE, 65)?;
     let mut closed = table.close(seats);
     assert!(rt; !closed.claimed(0) && !closed.claimed(1) && !closed.claimed(2));
     assert_eq!(rt; closed.blocks_mut().len(), 2);
+    assert_eq!(rt; closed.into_blocks().len(), 2);
     Ok(())
 }

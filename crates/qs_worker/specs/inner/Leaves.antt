@@ -9,14 +9,14 @@ use Rattle.qs_core.specs.Blocks.{IsApplicable}
 use Rattle.qs_table.specs.declared.view.Fetched.{Fetched}
 use Rattle.qs_table.specs.declared.view.SeatView.{SeatView}
 use Rattle.qs_table.specs.Claims.{freed_in}
-use Rattle.qs_worker.specs.Claims.{claims_in}
+use Rattle.qs_worker.specs.Claims.{claimed_in}
 
 -- the notes before are a prefix of those after, and the further ones free no task and claim these
 pub record GrewClaiming (tasks : List ℕ) (before after : List Note) : Type 0 where
   pub further : List Note
   pub is : after ≡ before ++ further
   pub frees_none : freed_in further ≡ []
-  pub claims : claims_in further ≡ tasks
+  pub claims : claimed_in further ≡ tasks
 
 -- and claim none
 abbrev pub GrewQuietly : List Note → List Note → Type 0
@@ -36,7 +36,7 @@ module _ {B : Type 0} (shape : Shape) (fits : ℕ → B → Type 0) (done : B �
     pub ready : (running : Running) → v.holds.running ≡ Some running → IsApplicable shape running.task leaf (fits leaf block) (done block)
 
   -- the blocks of the leaves from one on were fetched, and all else that was out still is
-  pub record HasFetched (from : ℕ) (before after : SeatView) (blocks : List B) : Type 0 where
+  pub record AreFetched (from : ℕ) (before after : SeatView) (blocks : List B) : Type 0 where
     pub cells : KeptCells before after
     pub running : after.holds.running ≡ before.holds.running
     pub each : (k : ℕ) (d : B) → k < length blocks → IsOutReady after (from + k) (get_or blocks k d)

@@ -5,12 +5,12 @@ use Rattle.qs_core.specs.declared.event.Note.{Note}
 use Rattle.qs_core.specs.Shape.{Shape}
 use Rattle.qs_core.specs.Core.{empty_view}
 use Rattle.qs_table.specs.declared.view.SeatView.{SeatView}
-use Rattle.qs_table.specs.Notes.{is_claim}
+use Rattle.qs_table.specs.Notes.{claims_task}
 use Rattle.qs_table.specs.Seats.{IsSeatOf, TableView, TokenView}
 use Rattle.qs_queues.specs.declared.view.QueueNote.{QueueNote}
 use Rattle.qs_queues.specs.declared.view.QueueView.{QueueView}
 use Rattle.qs_queues.specs.Views.{with_notes}
-use Rattle.qs_worker.specs.Looks.{Found}
+use Rattle.qs_worker.specs.Rounds.{Found}
 use Rattle.qs_worker.specs.Refusals.{WasRefused}
 use Rattle.qs_worker.specs.inner.Claimed.{claimed_view}
 use Rattle.qs_worker.specs.inner.Leaves.{GrewClaiming}
@@ -23,11 +23,11 @@ since before after = drop (length before) after
 pub record HasTaken (shape : Shape) (task : ℕ) (start now : SeatView) : Type 0 where
   pub is_task : task < length shape.tasks
   pub holds : now.holds ≡ claimed_view shape task
-  pub new : count_by (is_claim task) start.notes ≡ 0
+  pub new : count_by (claims_task task) start.notes ≡ 0
   pub front : List Note
   pub claim : Note
   pub is : now.notes ≡ start.notes ++ (front ++ claim ∷ [])
-  pub claims : is_claim task claim ≡ true
+  pub claims : claims_task task claim ≡ true
 
 -- what the try of a task claims
 abbrev pub claimed_by : Bool → ℕ → List ℕ
@@ -47,7 +47,7 @@ pub record IsTrying (shape : Shape) (start now : SeatView) (taken : Option ℕ) 
   pub none : taken ≡ None → now.holds ≡ empty_view
   pub some : (task : ℕ) → taken ≡ Some task → HasTaken shape task start now
 
--- a trial: its table, the plan of its work, the view of the seat that was lent to it, the seat as it now is and the name of the loan, and what was taken
+-- a trial: its table, the plan of its work, the view of the seat that was lent to it, the seat as it now is and the name of the loan, what was taken, and how many tries there were
 pub record TrialView (P : Type 0) : Type 0 where
   pub table : TableView P
   pub plan : P
@@ -55,6 +55,7 @@ pub record TrialView (P : Type 0) : Type 0 where
   pub now : TokenView P
   pub name : ℕ
   pub taken : Option ℕ
+  pub tries : ℕ
 
 -- the lent seat is one of the table, whose plan is the work's
 pub record IsTrial {P : Type 0} (shape : P → Shape) (t : TrialView P) : Type 0 where

@@ -7,7 +7,7 @@ ghost use Rattle.qs_worker.specs.Crews.{IsOn};
 use crate::tests::{opened, turned, worker_on};
 use crate::turn::Turn;
 use crate::worker::Worker;
-use qs_core::family::{Family, THREE};
+use qs_family::{Family, THREE};
 use qs_gate::CountGate;
 use qs_queues::{Push, QueueSeat, Queues};
 use qs_table::{QsSeat, ResTable, Try};

@@ -1,5 +1,5 @@
 use Rattle.std.proofs.Common.{◌∙◌}
-use Rattle.qs_core.proofs.Copied.{words_more}
+use Rattle.qs_core.proofs.Waiting.{words_more}
 use Rattle.qs_core.proofs.start.opening_words.Goals as goal
 
 pub loop-task-preserved : goal.loop-task-preserved

@@ -1,5 +1,5 @@
 use Rattle.std.proofs.Common.{◌≡◌}
-use Rattle.qs_core.proofs.Copied.{words_to}
+use Rattle.qs_core.proofs.Waiting.{words_to}
 use Rattle.qs_core.proofs.start.opening_words.Given as goal
 
 abbrev pub invariant-loop-task : goal.invariant-loop-task

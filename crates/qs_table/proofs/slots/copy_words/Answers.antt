@@ -1,7 +1,7 @@
 use Rattle.std.proofs.Common.{◌++◌, ◌∷◌, [], take, ap, sym, ◌∙◌, arith}
 use Rattle.std.proofs.lemmas.List.{length-set, take_more, take_more_set}
 use Rattle.std.specs.Mem.Slots.{slots_counts, slots_items}
-use Rattle.qs_table.proofs.Elems.{elem_or, elem_within}
+use Rattle.lists.proofs.Words.{elem_or, elem_within}
 use Rattle.qs_table.proofs.slots.copy_words.Goals as goal
 
 pub loop-place-preserved : goal.loop-place-preserved

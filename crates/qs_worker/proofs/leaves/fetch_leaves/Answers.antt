@@ -1,6 +1,6 @@
 use Rattle.std.proofs.Common.{sym, subst, ap, ◌∙◌, refl, length, arith}
 use Rattle.std.proofs.lemmas.List.{length_push}
-use Rattle.qs_worker.specs.inner.Leaves.{HasFetched}
+use Rattle.qs_worker.specs.inner.Leaves.{AreFetched}
 use Rattle.qs_worker.proofs.Fetching.{can_still, none_fetched, one_more}
 use Rattle.qs_worker.proofs.leaves.fetch_leaves.Goals as goal
 
@@ -8,7 +8,7 @@ pub loop-leaf-init : goal.loop-leaf-init
 loop-leaf-init g c =
     let none = ap length c.requires.empty in (
       c.requires.seat,
-      subst (HasFetched _ _ _ _ _ _) (sym c.requires.empty) (none_fetched _ _ _ _ c.args.seat.now.view),
+      subst (AreFetched _ _ _ _ _ _) (sym c.requires.empty) (none_fetched _ _ _ _ c.args.seat.now.view),
       (omega (arith, none)),
       c.requires.rises,
       refl,

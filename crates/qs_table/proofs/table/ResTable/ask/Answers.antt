@@ -2,7 +2,7 @@ use Rattle.std.proofs.Common.{◌≤◌, ◌∙◌, count_by, sym, ap, subst, ar
 use Rattle.qs_core.specs.Core.{task_place}
 use Rattle.qs_core.specs.Steps.{CanClaim}
 use Rattle.qs_table.specs.declared.view.SeatView.{SeatView}
-use Rattle.qs_table.specs.Notes.{is_claim}
+use Rattle.qs_table.specs.Notes.{claims_task}
 use Rattle.qs_table.specs.Seats.{TableView}
 use Rattle.qs_table.specs.Views.{alone}
 use Rattle.qs_table.specs.inner.Plays.{HasAsked, seat_in}
@@ -41,4 +41,4 @@ pub returns-clause-word : goal.returns-clause-word
 returns-clause-word g c = (told g c).word
 
 pub returns-clause-once : goal.returns-clause-once
-returns-clause-once g c t = subst (λ (v : SeatView). count_by (is_claim t) v.notes ≤ 1) (sym (knows_is _ _ _ _ (told g c).is)) ((told g c).once t)
+returns-clause-once g c t = subst (λ (v : SeatView). count_by (claims_task t) v.notes ≤ 1) (sym (knows_is _ _ _ _ (told g c).is)) ((told g c).once t)

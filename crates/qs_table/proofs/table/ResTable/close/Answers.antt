@@ -3,7 +3,7 @@ use Rattle.std.specs.Mem.Slots.{slots_counts}
 use Rattle.qs_core.specs.Core.{word_count}
 use Rattle.qs_table.specs.Blocks.{AreReturned, IsTaken}
 use Rattle.qs_table.specs.declared.view.SeatView.{SeatView}
-use Rattle.qs_table.specs.Notes.{claims_of, is_claim}
+use Rattle.qs_table.specs.Notes.{claims_of, claims_task}
 use Rattle.qs_table.specs.Seats.{TableView}
 use Rattle.qs_table.proofs.Ended.{closes_returned}
 use Rattle.qs_table.proofs.Gathered.{many_views}
@@ -38,7 +38,7 @@ returns-clause-returned g c = (ended g c).0
 
 pub returns-clause-claimed : goal.returns-clause-claimed
 returns-clause-claimed g c task l =
-    let same = c.gather-whole.ensures.all (λ (v : SeatView). count_by (is_claim task) v.notes) in
+    let same = c.gather-whole.ensures.all (λ (v : SeatView). count_by (claims_task task) v.notes) in
     let was = (ended g c).1 task l in (
       λ t. subst (λ (n : ℕ). 0 < n) same (was.0 t),
       λ some. was.1 (subst (λ (n : ℕ). 0 < n) (sym same) some),

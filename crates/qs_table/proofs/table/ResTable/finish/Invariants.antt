@@ -1,5 +1,5 @@
 use Rattle.std.proofs.Common.{◌≡◌, ◌≤◌, ◌<◌, ◌+◌, ℕ, count_by, length, vec_capacity}
-use Rattle.qs_table.specs.Notes.{is_release}
+use Rattle.qs_table.specs.Notes.{frees_task}
 use Rattle.qs_table.specs.inner.Plays.{seat_in}
 use Rattle.qs_table.specs.inner.Tokens.{Sits}
 use Rattle.qs_table.proofs.Finishes.{Releasing}
@@ -13,4 +13,4 @@ invariant-loop-k g l =
     × (l.seat.me.1 ≡ l.fn.seat.me.1)
     × (vec_capacity l.ready ≡ vec_capacity l.fn.ready)
     × (length l.ready.items ≤ length l.fn.ready.items + l.k)
-    × ((t : ℕ) → 0 < l.k → count_by (is_release t) (seat_in l.seat.me.0).notes ≤ 1)
+    × ((t : ℕ) → 0 < l.k → count_by (frees_task t) (seat_in l.seat.me.0).notes ≤ 1)

@@ -1,7 +1,7 @@
 use Rattle.std.proofs.Common.{◌<◌, ◌≤◌, ◌∙◌, length, count_by, sym, ap, subst, arith}
 use Rattle.qs_core.specs.Core.{task_place}
 use Rattle.qs_table.specs.declared.view.SeatView.{SeatView}
-use Rattle.qs_table.specs.Notes.{is_release}
+use Rattle.qs_table.specs.Notes.{frees_task}
 use Rattle.qs_table.specs.Seats.{TableView}
 use Rattle.qs_table.specs.Views.{alone}
 use Rattle.qs_table.specs.inner.Plays.{seat_in}
@@ -32,4 +32,4 @@ pub returns-clause-slots : goal.returns-clause-slots
 returns-clause-slots g c = ap (λ m. m.1) (c.fetch_sub.ensures.2 _ _ c.requires.sits.alone_is).0
 
 pub returns-clause-once : goal.returns-clause-once
-returns-clause-once g c t = subst (λ (v : SeatView). count_by (is_release t) v.notes ≤ 1) (sym (knows_is _ _ _ _ (c.fetch_sub.ensures.2 _ _ c.requires.sits.alone_is).0)) ((c.fetch_sub.ensures.2 _ _ c.requires.sits.alone_is).1 t)
+returns-clause-once g c t = subst (λ (v : SeatView). count_by (frees_task t) v.notes ≤ 1) (sym (knows_is _ _ _ _ (c.fetch_sub.ensures.2 _ _ c.requires.sits.alone_is).0)) ((c.fetch_sub.ensures.2 _ _ c.requires.sits.alone_is).1 t)

@@ -7,7 +7,7 @@ use Rattle.qs_core.specs.Steps.{CanFetch}
 use Rattle.qs_table.specs.Leaves.{IsFetched}
 use Rattle.qs_table.specs.Seats.{TableView}
 use Rattle.qs_table.specs.Views.{alone, knows_fetched}
-use Rattle.qs_table.specs.inner.Plays.{HasFetched, seat_in}
+use Rattle.qs_table.specs.inner.Plays.{TookBlock, seat_in}
 use Rattle.qs_table.proofs.LeafSteps.{fetch_allowed}
 use Rattle.qs_table.proofs.Sitting.{front_and_rest, knows_is, same_front, sits_after}
 use Rattle.qs_table.proofs.table.ResTable.take_out.Given.{Over}
@@ -27,7 +27,7 @@ swap-requires g c =
       fetch_allowed W.shape W.fits W.done _ laid.laws _ _ _ _ c.args.leaf (seat_in c.args.seat.now.me.0) _ (c.requires.sits.alone_is ∙ ap (λ p. alone p (seat_in c.args.seat.now.me.0)) (sym plan)) word c.requires.hand can,
     )
 
-told : (g : Over) (c : After-swap g) → HasFetched g.W.Work.shape g.W.Work.fits g.W.Work.done c.args.self.now.plan (seat_in c.args.seat.now.me.0) c.args.leaf c.args.seat.now.me.1 c.swap.new.seat.me
+told : (g : Over) (c : After-swap g) → TookBlock g.W.Work.shape g.W.Work.fits g.W.Work.done c.args.self.now.plan (seat_in c.args.seat.now.me.0) c.args.leaf c.args.seat.now.me.1 c.swap.new.seat.me
 told g c = c.swap.ensures.2 c.args.self.now.plan (seat_in c.args.seat.now.me.0) c.args.leaf c.requires.sits.alone_is c.leaf_word-word.ensures
 
 pub exchange-requires : goal.exchange-requires

@@ -1,5 +1,4 @@
-use Rattle.std.proofs.Common.{ap, ◌∙◌}
-use Rattle.qs_table.proofs.EmptySeats.{busy_empty, empty_can_lock, gave_empty, got_can_give}
+use Rattle.qs_table.proofs.EmptySeats.{empty_can_lock, got_can_give}
 use Rattle.qs_table.proofs.table.tests.tries.Goals as goal
 
 pub try_cell-answer-requires-clause-can : goal.try_cell-answer-requires-clause-can

@@ -1,4 +1,4 @@
-use Rattle.std.proofs.Common.{◌<◌, arith}
+use Rattle.std.proofs.Common.{arith}
 use Rattle.qs_table.proofs.EmptySeats.{empty_can_lock}
 use Rattle.qs_table.proofs.table.tests.two_seats_own_cells_that_are_apart.Goals as goal
 

@@ -1,6 +1,6 @@
 use Rattle.std.proofs.Common.{ap}
-use Rattle.qs_core.specs.declared.family.Family.{Family}
-use Rattle.qs_core.specs.Family.{family}
+use Rattle.qs_family.specs.declared.family.Family.{Family}
+use Rattle.qs_family.specs.Family.{family}
 use Rattle.qs_table.proofs.Worked.{brings, first_ready, may_fetch, may_release, over_two, two_can_give, two_gave}
 use Rattle.qs_table.proofs.table.tests.works.Goals as goal
 

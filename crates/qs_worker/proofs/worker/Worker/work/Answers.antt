@@ -9,12 +9,12 @@ loop-left-preserved g c =
       t.seat,
       t.queue_seat,
       t.turned.number ∙ v.2,
-      one_worked _ _ c.turn-answer.result c.loop-left.left _ _ _ _ v.3 t.turned c.loop-left-test.true c.rest_after-left.ensures,
+      one_worked _ _ c.turn-answer.result c.loop-left.left _ _ _ _ v.3 t.turned c.loop-left-test.true c.idle_turns_left-left.ensures,
       inr t.ready,
     )
 
 pub loop-left-smaller : goal.loop-left-smaller
-loop-left-smaller g c = falls _ _ c.turn-answer.result _ _ c.loop-left.left _ c.turn-answer.ensures.turned c.loop-left-test.true c.rest_after-left.ensures
+loop-left-smaller g c = falls _ _ c.turn-answer.result _ _ c.loop-left.left _ c.turn-answer.ensures.turned c.loop-left-test.true c.idle_turns_left-left.ensures
 
 -- a worker that stopped took a turn at least
 pub returns-clause-ready : goal.returns-clause-ready

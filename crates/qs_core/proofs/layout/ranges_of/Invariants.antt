@@ -1,5 +1,0 @@
-use Rattle.std.proofs.Common.{◌≡◌, take}
-use Rattle.qs_core.proofs.layout.ranges_of.Given as goal
-
-abbrev pub invariant-loop-cell : goal.invariant-loop-cell
-invariant-loop-cell g l = l.ranges.items ≡ take l.cell (g.W.Work.shape (g.W.Work.plan l.work)).ranges

@@ -1,0 +1,2 @@
+pub mod FamilyMarks
+pub mod FamilyShape

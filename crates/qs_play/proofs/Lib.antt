@@ -1,0 +1,4 @@
+mod Copied
+mod Just
+mod Owning
+mod Played
