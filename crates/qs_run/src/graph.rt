@@ -2,6 +2,7 @@
 ghost use Rattle.std.specs.Prelude.{◌≡◌, ◌≤◌, ◌<◌, All, IfErr, IfOk, length, min};
 ghost use Rattle.qs_core.specs.Blocks.{AreFitting, AreFresh};
 ghost use Rattle.qs_table.specs.Seats.{IsNewSeat};
+ghost use Rattle.qs_queues.specs.Seats.{QueuesView};
 ghost use Rattle.qs_worker.specs.Crews.{IsOn};
 ghost use Rattle.qs_run.specs.Blocks.{AreAllDone};
 
@@ -54,12 +55,30 @@ where
         }
     };
     crew.work(rt, work, &table, &queues, gate);
-    let closed = table.close(crew.into_seats());
-    Ok(finish_rest(work, closed, workers, gate))
+    Ok(close_run(work, table, crew, gate))
+}
+
+/// Closes the table of a crew that has stopped, and does what it left, with the number behind its workers'.
+pub(crate) fn close_run<W: Work, G: Gate>(
+    work: &W,
+    table: ResTable<W>,
+    crew: Crew<W>,
+    gate: &G,
+) -> Vec<W::Block>
+    requires work { W.plan work.now ≡ table.plan }
+    requires workers { (queues : QueuesView) × All (IsOn table queues) crew }
+    requires as_many { length crew ≡ table.seats }
+    requires few { length crew ≤ 64 }
+    ensures all_done { AreAllDone (W.shape (W.plan work.now)) (W.fits (W.plan work.now)) W.done result.items }
+{
+    let seats = crew.into_seats();
+    let worker = seats.len() as u32;
+    let closed = table.close(seats);
+    finish_rest(work, closed, worker, gate)
 }
 
 /// A worker on each of the seats of a table, and a queue for each worker, with room for all tasks or for 65,536 of them.
-fn man<W: Work>(
+pub(crate) fn man<W: Work>(
     alloc: Global,
     work: &W,
     table: &ResTable<W>,

@@ -4,11 +4,11 @@ ghost use Rattle.qs_table.specs.Seats.{IsNewSeat};
 ghost use Rattle.qs_queues.specs.Seats as queue;
 ghost use Rattle.qs_worker.specs.Crews.{IsOn};
 
-use crate::tests::{opened, turned, worker_on};
+use crate::tests::{opened, turned};
 use crate::turn::Turn;
 use crate::worker::Worker;
 use qs_family::{Family, THREE};
-use qs_gate::CountGate;
+use qs_gate::{LogGate, Pass};
 use qs_queues::{Push, QueueSeat, Queues};
 use qs_table::{QsSeat, ResTable, Try};
 use std::alloc::{AllocError, Global};
@@ -73,7 +73,7 @@ fn turned_beside(
     worker: &mut Worker<Family>,
     table: &ResTable<Family>,
     queues: &Queues,
-    gate: &CountGate,
+    gate: &LogGate,
     other: &mut QsSeat<Family>,
 ) -> Option<Turn>
     requires plan { table.now.plan ≡ record { has_tasks = true; has_third = true } }
@@ -92,45 +92,19 @@ fn turned_beside(
     }
 }
 
+/// An Idle turn passes no gate, and the task that it couldn't claim stays in the queue of the other.
 #[test]
-fn a_task_that_is_held_stays_in_its_queue(rt: HostRuntime) -> Result<(), Fail> {
-    let gate = CountGate::new();
-    let (table, seat, mut other) = opened_for_two(rt.alloc())?;
-    let (queues, queue_seat, mut spare) = queues_for_two(rt.alloc(), 1)?;
-    let mut worker = worker_on(rt.alloc(), &table, &queues, seat, queue_seat)?;
+fn a_worker_takes_a_task_of_another_once_its_cell_is_free(rt: HostRuntime) -> Result<(), Fail> {
+    let gate = LogGate::new(rt.alloc(), 2)?;
+    let (table, mut other, seat) = opened_for_two(rt.alloc())?;
+    let (queues, mut spare, queue_seat) = queues_for_two(rt.alloc(), 1)?;
+    let mut worker = second_on(rt.alloc(), &table, &queues, seat, queue_seat)?;
+    assert_eq!(rt; pushed(&queues, &mut spare, 0, 0), Push::In);
     let answer = turned_beside(&mut worker, &table, &queues, &gate, &mut other);
     assert_eq!(rt; answer, Some(Turn::Idle));
-    assert_eq!(rt; gate.passes(), 0);
-    // It stands in the worker's queue, which has room for one.
     assert_eq!(rt; pushed(&queues, &mut spare, 0, 1), Push::Full);
     assert_eq!(rt; turned(&mut worker, &table, &queues, &gate), Turn::Ran(0));
-    assert_eq!(rt; gate.passes(), 1);
-    Ok(())
-}
-
-#[test]
-fn a_full_queue_turns_a_task_away_to_the_next(rt: HostRuntime) -> Result<(), Fail> {
-    let gate = CountGate::new();
-    let (table, seat, _spare) = opened_for_two(rt.alloc())?;
-    let (queues, queue_seat, mut other) = queues_for_two(rt.alloc(), 1)?;
-    let mut worker = worker_on(rt.alloc(), &table, &queues, seat, queue_seat)?;
-    // The worker's own queue is full of the second task, which waits for the first.
-    assert_eq!(rt; pushed(&queues, &mut other, 0, 1), Push::In);
-    assert_eq!(rt; turned(&mut worker, &table, &queues, &gate), Turn::Ran(0));
-    assert_eq!(rt; gate.passes(), 1);
-    assert_eq!(rt; pushed(&queues, &mut other, 0, 1), Push::Full);
-    assert_eq!(rt; pushed(&queues, &mut other, 1, 1), Push::In);
-    Ok(())
-}
-
-#[test]
-fn a_worker_takes_a_task_from_the_queue_of_another(rt: HostRuntime) -> Result<(), Fail> {
-    let gate = CountGate::new();
-    let (table, _spare, seat) = opened_for_two(rt.alloc())?;
-    let (queues, mut other, queue_seat) = queues_for_two(rt.alloc(), 3)?;
-    let mut worker = second_on(rt.alloc(), &table, &queues, seat, queue_seat)?;
-    assert_eq!(rt; pushed(&queues, &mut other, 0, 0), Push::In);
-    assert_eq!(rt; turned(&mut worker, &table, &queues, &gate), Turn::Ran(0));
-    assert_eq!(rt; (gate.passes(), gate.firsts()), (1, 0));
+    let only = Pass { worker: 1, task: 0 };
+    assert_eq!(rt; gate.passes(rt.alloc())?.as_slice(), [only].as_slice());
     Ok(())
 }
