@@ -43,7 +43,7 @@ pub record IsSame (before mid : BlockRows) : Type 0 where
 parts_after : (scene : Scene) (leaf : ℕ) (a b c : Bool) (d f : ℕ → List Particle) (task : ℕ) (mid after : BlockRows) → IsMarked task mid after → HoldsParts scene leaf a b c d f mid → HoldsParts scene leaf a b c d f after
 parts_after scene leaf a b c d f task mid after marked parts =
     let moved = subst (HoldsParts scene leaf a b c d f) (sym marked.unchanged) parts in
-    record { spots = moved.spots; pulls = moved.pulls; rhos = moved.rhos; forces = moved.forces; particles = moved.particles }
+    record { spots = moved.spots; pulls = moved.pulls; rhos = moved.rhos; forces = moved.forces; moving = moved.moving }
 
 -- the block agrees again, where its lists hold what is done with the task
 pub added : (scene : Scene) (task leaf : ℕ) (a b c : Bool) (d f : ℕ → List Particle) (before mid after : BlockRows) → Agrees scene leaf before → IsSame before mid → HoldsParts scene leaf a b c d f mid → IsMarked task mid after

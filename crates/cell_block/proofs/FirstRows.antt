@@ -1,9 +1,7 @@
 -- Before any task is done a block holds what the content says.
-use Rattle.std.proofs.Common.{◌≡◌, ℕ, ◌+◌, ◌<◌, ◌&&◌, Bool, true, false, cond, List, [], ◌∷◌, ◌++◌, map, filter, length, get_or, All, refl, ap, sym, ◌∙◌, arith}
+use Rattle.std.proofs.Common.{◌≡◌, ℕ, ◌<◌, ◌&&◌, Bool, true, false, cond, List, [], ◌∷◌, map, filter, length, get_or, All, refl, ap, sym, ◌∙◌}
 use Rattle.std.specs.List.{range_with_len}
-use Rattle.std.proofs.lemmas.List.{append-nil}
-use Rattle.std.proofs.lemmas.List.Elements.{All-map, filter-append}
-use Rattle.lists.proofs.Ranges.{range_push}
+use Rattle.std.proofs.lemmas.List.Elements.{All-map}
 use Rattle.sph_num.specs.declared.kind.Kind.{Kind}
 use Rattle.sph_num.specs.declared.kind.Kind.TheVariants.{Density, Force}
 use Rattle.sph_num.specs.declared.particle.Particle.{Particle}
@@ -16,11 +14,11 @@ use Rattle.cell_block.specs.declared.rows.BlockRows.{BlockRows}
 use Rattle.cell_block.specs.declared.rows.Mark.{Mark}
 use Rattle.cell_block.specs.declared.rows.Spot.{Spot}
 use Rattle.cell_block.specs.declared.scene.Scene.{Scene}
-use Rattle.cell_block.specs.Blocks.{Agrees, HoldsRows, done_of, pull_of, rest_of, spot_of, tasks_at}
+use Rattle.cell_block.specs.Blocks.{Agrees, HoldsRows, done_of, pull_of, moving_of, spot_of, tasks_at}
 use Rattle.cell_block.specs.Content.{Row, content, met, row_of, summed_in}
 use Rattle.cell_block.specs.Extents.{AreWithin, HavePlaces}
 use Rattle.cell_block.specs.Scene.{IsGoodScene, is_due_at, members_of, particle_at, place_of}
-use Rattle.cell_block.specs.inner.Beginning.{first_force, first_pull, first_rho, first_spot, not_done}
+use Rattle.cell_block.specs.inner.Beginning.{first_force, first_moving, first_pull, first_rho, first_spot, not_done}
 use Rattle.cell_block.proofs.Ranges.{sound_at}
 
 -- one function after another on a list
@@ -32,20 +30,6 @@ map-map f g h same (x ∷ xs) = ap (λ y. y ∷ map f (map g xs)) (same x) ∙ a
 pub filter_nothing : {X : Type 0} (p : X → Bool) → ((x : X) → p x ≡ false) → (xs : List X) → filter p xs ≡ []
 filter_nothing p none [] = refl
 filter_nothing p none (x ∷ xs) = ap (λ b. cond b (x ∷ filter p xs) (filter p xs)) (none x) ∙ filter_nothing p none xs
-
--- the numbers up to one more
-numbers_push : (n : ℕ) → range_with_len 0 (n + 1) ≡ range_with_len 0 n ++ n ∷ []
-numbers_push n = let none : 0 + n ≡ n = omega arith in range_push 0 n ∙ ap (λ k. range_with_len 0 n ++ k ∷ []) none
-
--- and those of them that pass
-pub filter_range_yes : (p : ℕ → Bool) (n : ℕ) → p n ≡ true → filter p (range_with_len 0 (n + 1)) ≡ filter p (range_with_len 0 n) ++ n ∷ []
-filter_range_yes p n passes =
-    ap (filter p) (numbers_push n) ∙ filter-append p (range_with_len 0 n) (n ∷ []) ∙ ap (λ b. filter p (range_with_len 0 n) ++ cond b (n ∷ []) []) passes
-
-pub filter_range_no : (p : ℕ → Bool) (n : ℕ) → p n ≡ false → filter p (range_with_len 0 (n + 1)) ≡ filter p (range_with_len 0 n)
-filter_range_no p n fails =
-    ap (filter p) (numbers_push n) ∙ filter-append p (range_with_len 0 n) (n ∷ []) ∙ ap (λ b. filter p (range_with_len 0 n) ++ cond b (n ∷ []) []) fails
-    ∙ append-nil (filter p (range_with_len 0 n))
 
 -- where no task is done nobody is met
 pub met_none : (scene : Scene) (kind : Kind) (i : ℕ) → met scene kind [] i ≡ []
@@ -84,8 +68,8 @@ row_force scene leaf i =
     of_either (λ p. p.f) (is_due_at scene i) (summed_in scene leaf [] i) (particle_at scene i) _
     (ap (λ others. force_of (place_of scene) (ghost_at scene.params scene.tick scene.start) others (particle_at scene i)) (met_none scene Force i))
 
-row_rest : (scene : Scene) (leaf i : ℕ) → rest_of (row_of scene leaf [] i).particle ≡ rest_of (particle_at scene i)
-row_rest scene leaf i = alike rest_of (is_due_at scene i) (summed_in scene leaf [] i) (particle_at scene i) refl
+row_moving : (scene : Scene) (leaf i : ℕ) → moving_of (row_of scene leaf [] i).particle ≡ moving_of (particle_at scene i)
+row_moving scene leaf i = alike moving_of (is_due_at scene i) (summed_in scene leaf [] i) (particle_at scene i) refl
 
 -- its members have places
 place_either : (b : Bool) (x y : List ℕ) → IsPlace x → IsPlace y → IsPlace (cond b x y)
@@ -112,9 +96,9 @@ none_done (task ∷ tasks) = none_done tasks
 pub begins : (scene : Scene) (leaf : ℕ) (block : BlockRows) → block.leaf ≡ leaf → block.members.items ≡ members_of scene leaf → block.marks.items ≡ map not_done (tasks_at scene leaf)
     → block.spots.items ≡ map (first_spot scene) block.members.items → block.pulls.items ≡ map (first_pull scene) block.members.items
     → block.due.items ≡ map (is_due_at scene) block.members.items → block.rhos.items ≡ map (first_rho scene) block.members.items
-    → block.forces.items ≡ map (first_force scene) block.members.items → block.particles.items ≡ map (particle_at scene) block.members.items → AreWithin block.extent block.spots.items
+    → block.forces.items ≡ map (first_force scene) block.members.items → block.moving.items ≡ map (first_moving scene) block.members.items → AreWithin block.extent block.spots.items
     → Agrees scene leaf block × (done_of block ≡ [])
-begins scene leaf block number members marks spots pulls due rhos forces particles within =
+begins scene leaf block number members marks spots pulls due rhos forces moving within =
     let none : done_of block ≡ [] = ap (λ ms. map (λ (m : Mark). m.task) (filter (λ (m : Mark). m.done) ms)) marks ∙ none_done (tasks_at scene leaf) in
     let all = members_of scene leaf in
     let row = row_of scene leaf [] in
@@ -123,8 +107,7 @@ begins scene leaf block number members marks spots pulls due rhos forces particl
       pulls = pulls ∙ ap (map (first_pull scene)) members ∙ sym (map-map pull_of row (first_pull scene) (row_pull scene leaf) all);
       rhos = rhos ∙ ap (map (first_rho scene)) members ∙ sym (map-map (λ (r : Row). r.particle.rho) row (first_rho scene) (row_rho scene leaf) all);
       forces = forces ∙ ap (map (first_force scene)) members ∙ sym (map-map (λ (r : Row). r.particle.f) row (first_force scene) (row_force scene leaf) all);
-      particles = ap (map rest_of) (particles ∙ ap (map (particle_at scene)) members) ∙ map-map rest_of (particle_at scene) (λ i. rest_of (particle_at scene i)) (λ i. refl) all
-          ∙ sym (map-map (λ (r : Row). rest_of r.particle) row (λ i. rest_of (particle_at scene i)) (row_rest scene leaf) all);
+      moving = moving ∙ ap (map (first_moving scene)) members ∙ sym (map-map (λ (r : Row). moving_of r.particle) row (first_moving scene) (row_moving scene leaf) all);
     } in (
       record {
         number = number;

@@ -8,16 +8,17 @@ use Rattle.sph_num.specs.Density.{density_of}
 use Rattle.sph_num.specs.Force.{force_of}
 use Rattle.sph_num.specs.Pull.{Puller, puller}
 use Rattle.sph_bins.specs.Kick.{ghost_at, kicked}
+use Rattle.cell_block.specs.declared.moving.Moving.{Moving}
 use Rattle.cell_block.specs.declared.rows.BlockRows.{BlockRows}
 use Rattle.cell_block.specs.declared.rows.Spot.{Spot}
 use Rattle.cell_block.specs.declared.scene.Scene.{Scene}
-use Rattle.cell_block.specs.Blocks.{HoldsRows, pull_of, rest_of, spot_of}
+use Rattle.cell_block.specs.Blocks.{HoldsRows, pull_of, moving_of, spot_of}
 use Rattle.cell_block.specs.Content.{Row, content, is_done_on, met, row_of, summed_in}
 use Rattle.cell_block.specs.Scene.{is_due_at, members_of, particle_at, place_of}
 use Rattle.cell_block.proofs.FirstRows.{alike, map-map, of_either}
 
 -- what stands in each list for a particle: its spot, where a drift is done or not; its pull, with the new ghost or the old; the density
--- and the force, of those whom it met; and the rest of it, kicked or not
+-- and the force, of those whom it met; and what a kick reads and writes, kicked or not
 abbrev pub spot_with : Scene → Bool → ℕ → Spot
 spot_with scene drifted i =
     let p = particle_at scene i in
@@ -34,10 +35,10 @@ rho_with scene others i = let p = particle_at scene i in if is_due_at scene i th
 abbrev pub force_with : Scene → List Particle → ℕ → List ℤ
 force_with scene others i = let p = particle_at scene i in if is_due_at scene i then force_of (place_of scene) (ghost_at scene.params scene.tick scene.start) others p else p.f
 
-abbrev pub rest_with : Scene → Bool → ℕ → Particle
-rest_with scene kicks i =
+abbrev pub moving_with : Scene → Bool → ℕ → Moving
+moving_with scene kicks i =
     let p = particle_at scene i in
-    rest_of (if is_due_at scene i then (if kicks then kicked scene.params scene.tick scene.start p else p) else p)
+    moving_of (if is_due_at scene i then (if kicks then kicked scene.params scene.tick scene.start p else p) else p)
 
 -- a kick changes neither mass nor length
 kicked_mass : (b : Bool) (scene : Scene) (p : Particle) → (if b then kicked scene.params scene.tick scene.start p else p).mass ≡ p.mass
@@ -76,12 +77,12 @@ row_rho scene leaf done i = of_either (λ q. q.rho) (is_due_at scene i) (summed_
 pub row_force : (scene : Scene) (leaf : ℕ) (done : List ℕ) (i : ℕ) → (row_of scene leaf done i).particle.f ≡ force_with scene (met scene Force done i) i
 row_force scene leaf done i = of_either (λ q. q.f) (is_due_at scene i) (summed_in scene leaf done i) (particle_at scene i) _ refl
 
-rest_either : (due : Bool) (s q p : Particle) → rest_of s ≡ rest_of q → rest_of (if due then s else p) ≡ rest_of (if due then q else p)
-rest_either true s q p same = same
-rest_either false s q p same = refl
+moving_either : (due : Bool) (s q p : Particle) → moving_of s ≡ moving_of q → moving_of (if due then s else p) ≡ moving_of (if due then q else p)
+moving_either true s q p same = same
+moving_either false s q p same = refl
 
-row_rest : (scene : Scene) (leaf : ℕ) (done : List ℕ) (i : ℕ) → rest_of (row_of scene leaf done i).particle ≡ rest_with scene (is_done_on scene Kick leaf done) i
-row_rest scene leaf done i = rest_either (is_due_at scene i) (summed_in scene leaf done i) _ (particle_at scene i) refl
+row_moving : (scene : Scene) (leaf : ℕ) (done : List ℕ) (i : ℕ) → moving_of (row_of scene leaf done i).particle ≡ moving_with scene (is_done_on scene Kick leaf done) i
+row_moving scene leaf done i = moving_either (is_due_at scene i) (summed_in scene leaf done i) _ (particle_at scene i) refl
 
 -- where a drift is done, a particle stands at its place
 pub where_drifted : (drift done : Bool) (x y : List ℕ) → (drift ≡ true → done ≡ true) → (if drift && not done then x else y) ≡ y
@@ -95,7 +96,7 @@ pub record HoldsParts (scene : Scene) (leaf : ℕ) (drifted made kicks : Bool) (
   pub pulls : block.pulls.items ≡ map (pull_with scene made) (members_of scene leaf)
   pub rhos : block.rhos.items ≡ map (λ i. rho_with scene (in_densities i) i) (members_of scene leaf)
   pub forces : block.forces.items ≡ map (λ i. force_with scene (in_forces i) i) (members_of scene leaf)
-  pub particles : map rest_of block.particles.items ≡ map (rest_with scene kicks) (members_of scene leaf)
+  pub moving : block.moving.items ≡ map (moving_with scene kicks) (members_of scene leaf)
 
 pub parts_held : (scene : Scene) (leaf : ℕ) (done : List ℕ) (block : BlockRows) → HoldsRows block (content scene leaf done)
     → HoldsParts scene leaf (is_done_on scene Drift leaf done) (is_done_on scene Ghost leaf done) (is_done_on scene Kick leaf done) (λ i. met scene Density done i) (λ i. met scene Force done i) block
@@ -107,7 +108,7 @@ parts_held scene leaf done block rows =
       pulls = rows.pulls ∙ map-map pull_of row (pull_with scene (is_done_on scene Ghost leaf done)) (row_pull scene leaf done) ms;
       rhos = rows.rhos ∙ map-map (λ (r : Row). r.particle.rho) row (λ i. rho_with scene (met scene Density done i) i) (row_rho scene leaf done) ms;
       forces = rows.forces ∙ map-map (λ (r : Row). r.particle.f) row (λ i. force_with scene (met scene Force done i) i) (row_force scene leaf done) ms;
-      particles = rows.particles ∙ map-map (λ (r : Row). rest_of r.particle) row (rest_with scene (is_done_on scene Kick leaf done)) (row_rest scene leaf done) ms;
+      moving = rows.moving ∙ map-map (λ (r : Row). moving_of r.particle) row (moving_with scene (is_done_on scene Kick leaf done)) (row_moving scene leaf done) ms;
     }
 
 -- what is done on a leaf, as far as the lists depend on it
@@ -128,5 +129,5 @@ rows_held scene leaf drifted made kicks in_densities in_forces done block are pa
       pulls = parts.pulls ∙ sym (map-map pull_of row (pull_with scene made) (λ i. row_pull scene leaf done i ∙ ap (λ b. pull_with scene b i) are.ghosted) ms);
       rhos = parts.rhos ∙ sym (map-map (λ (r : Row). r.particle.rho) row (λ i. rho_with scene (in_densities i) i) (λ i. row_rho scene leaf done i ∙ ap (λ ps. rho_with scene ps i) (are.densities i)) ms);
       forces = parts.forces ∙ sym (map-map (λ (r : Row). r.particle.f) row (λ i. force_with scene (in_forces i) i) (λ i. row_force scene leaf done i ∙ ap (λ ps. force_with scene ps i) (are.forces i)) ms);
-      particles = parts.particles ∙ sym (map-map (λ (r : Row). rest_of r.particle) row (rest_with scene kicks) (λ i. row_rest scene leaf done i ∙ ap (λ b. rest_with scene b i) are.kicked) ms);
+      moving = parts.moving ∙ sym (map-map (λ (r : Row). moving_of r.particle) row (moving_with scene kicks) (λ i. row_moving scene leaf done i ∙ ap (λ b. moving_with scene b i) are.kicked) ms);
     }

@@ -5,13 +5,12 @@ use Rattle.std.specs.List.{range_with_len}
 use Rattle.std.proofs.lemmas.Bool.{both_ways, cases_Bool, cases_eq}
 use Rattle.std.proofs.lemmas.Bool.Decides.{nat_tests}
 use Rattle.std.proofs.lemmas.List.{get_or_default, get_or-replicate, get_or-set_same, get_or-set_other, length-replicate}
-use Rattle.lists.proofs.Ranges.{by_numbers}
+use Rattle.lists.proofs.Ranges.{by_numbers, filter_range_no, filter_range_yes}
 use Rattle.cell_block.specs.declared.scene.Scene.{Scene}
 use Rattle.cell_block.specs.declared.scene.TaskLine.{TaskLine}
 use Rattle.cell_block.specs.Blocks.{tasks_at}
 use Rattle.cell_block.specs.Scene.{IsOtherRange, is_in, is_in_second, leaf_numbers, line_at, touches}
 use Rattle.cell_block.specs.inner.TaskLists.{AddsTask}
-use Rattle.cell_block.proofs.FirstRows.{filter_range_no, filter_range_yes}
 
 -- no leaf lies in an empty range
 outside_empty : (first leaf : ℕ) → is_in (first, first) leaf ≡ false

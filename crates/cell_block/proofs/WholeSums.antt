@@ -1,9 +1,10 @@
 -- Once every task of a kind that touches a leaf is done there, the sums of its due members are whole: who isn't met counts for nothing.
-use Rattle.std.proofs.Common.{◌≡◌, ℕ, ◌<◌, ◌||◌, true, List, [], ◌∷◌, filter, map, length, inl, inr, refl, ap, sym, ◌∙◌}
-use Rattle.std.specs.Prelude.{ℤ, pos, ◌+◌, ◌+ℤ◌, Option, Some, None, slice_get, sum_by}
+use Rattle.std.proofs.Common.{◌≡◌, ℕ, ◌<◌, ◌||◌, true, List, filter, map, length, inl, inr, refl, ap, sym, ◌∙◌}
+use Rattle.std.specs.Prelude.{pos, ◌+◌, ◌+ℤ◌, Option, Some, None, slice_get, sum_by}
 use Rattle.std.specs.List.{Contains, list_any, range_with_len}
 use Rattle.std.proofs.lemmas.Option.{get_or_from_slice_get, slice_get_cases}
 use Rattle.std.proofs.lemmas.List.FromFn.{fill_by_all}
+use Rattle.lists.proofs.Elements.{three-eq}
 use Rattle.lists.proofs.Ranges.{below_from_numbers}
 use Rattle.sph_num.specs.declared.kind.Kind.{Kind}
 use Rattle.sph_num.specs.declared.kind.Kind.TheVariants.{Drift, Density, Ghost, Force, Kick}
@@ -106,9 +107,6 @@ whole_on scene leaf done i axis good all at due =
     ∙ sym (force_by_indices scene axis i (range_with_len 0 n))
     ∙ ap (total_by from) (sym (start_is scene))
 
-same_vector : (a b c x y z : ℤ) → a ≡ x → b ≡ y → c ≡ z → a ∷ b ∷ c ∷ [] ≡ x ∷ y ∷ z ∷ []
-same_vector a b c x y z p q r = rw (p, q, r) refl
-
 pub forces_are_whole : ForcesAreWhole
 forces_are_whole scene leaf done i good all at due =
-    same_vector _ _ _ _ _ _ (whole_on scene leaf done i 0 good all at due) (whole_on scene leaf done i 1 good all at due) (whole_on scene leaf done i 2 good all at due)
+    three-eq _ _ _ _ _ _ (whole_on scene leaf done i 0 good all at due) (whole_on scene leaf done i 1 good all at due) (whole_on scene leaf done i 2 good all at due)

@@ -3,7 +3,7 @@ use Rattle.std.specs.Prelude.{◌≡◌, ℕ, ◌+◌, ◌-◌, ◌<◌, ◌↔�
 use Rattle.std.specs.List.{range_with_len}
 use Rattle.sph_num.specs.declared.particle.Particle.{Particle}
 use Rattle.sph_num.specs.Pull.{Puller, puller}
-use Rattle.sph_num.specs.Totals.{zero_vector}
+use Rattle.cell_block.specs.declared.moving.Moving.{Moving}
 use Rattle.cell_block.specs.declared.rows.BlockRows.{BlockRows}
 use Rattle.cell_block.specs.declared.rows.Mark.{Mark}
 use Rattle.cell_block.specs.declared.rows.Spot.{Spot}
@@ -20,15 +20,15 @@ done_of block = map (λ (m : Mark). m.task) (filter (λ (m : Mark). m.done) bloc
 abbrev pub AreDoneWith : List ℕ → ℕ → List ℕ → Type 0
 AreDoneWith done task done' = (t : ℕ) → Contains done' t ↔ (Contains done t ⊎ (t ≡ task))
 
--- a row as the block keeps it: its spot, its pull, and a particle without what stands in the other lists
+-- a row as the block keeps it: its spot, its pull, and what a kick reads and writes of it
 abbrev pub spot_of : Row → Spot
 spot_of row = record { place = row.place; h = row.particle.h }
 
 abbrev pub pull_of : Row → Puller
 pull_of row = puller row.particle.h row.particle.mass row.particle.g
 
-abbrev pub rest_of : Particle → Particle
-rest_of particle = record particle { rho = 0; g = 0; f = zero_vector }
+abbrev pub moving_of : Particle → Moving
+moving_of i = record { mass = i.mass; h = i.h; x0 = i.x0; t0 = i.t0; p = i.p; q = i.q; bin = i.bin }
 
 -- the block's flat lists hold these rows
 pub record HoldsRows (block : BlockRows) (rows : List Row) : Type 0 where
@@ -36,7 +36,7 @@ pub record HoldsRows (block : BlockRows) (rows : List Row) : Type 0 where
   pub pulls : block.pulls.items ≡ map pull_of rows
   pub rhos : block.rhos.items ≡ map (λ (row : Row). row.particle.rho) rows
   pub forces : block.forces.items ≡ map (λ (row : Row). row.particle.f) rows
-  pub particles : map rest_of block.particles.items ≡ map (λ (row : Row). rest_of row.particle) rows
+  pub moving : block.moving.items ≡ map (λ (row : Row). moving_of row.particle) rows
 
 -- the tasks that touch a leaf, rising
 abbrev pub tasks_at : Scene → ℕ → List ℕ

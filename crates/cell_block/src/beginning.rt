@@ -1,17 +1,17 @@
 //! What a block holds before any task is done on it: a list for each field, an element a member.
 ghost use Rattle.std.specs.Prelude.{◌≡◌, ◌<◌, All, IfOk, length, map};
 ghost use Rattle.cell_block.specs.Blocks.{tasks_at};
-ghost use Rattle.cell_block.specs.Scene.{IsGoodScene, is_due_at, is_in, particle_at, touches};
-ghost use Rattle.cell_block.specs.inner.Beginning.{first_force, first_pull, first_rho, first_spot, not_done};
+ghost use Rattle.cell_block.specs.Scene.{IsGoodScene, is_due_at, is_in, touches};
+ghost use Rattle.cell_block.specs.inner.Beginning.{AreGiven, first_force, first_pull, first_rho, first_spot, not_done};
 
 use crate::rows::{Mark, Spot};
 use crate::scene::{Scene, TaskLine};
 use sph_bins::due;
-use sph_num::{Length, Particle, Pull};
+use sph_num::{Length, Pull};
 use std::alloc::{AllocError, Global};
 
 /// Whether the particle is due at the scene's tick.
-fn is_due(scene: &Scene, i: u32) -> bool
+pub(crate) fn is_due(scene: &Scene, i: u32) -> bool
     requires good { IsGoodScene scene.now }
     requires within { i < length scene.now.start }
     ensures { result ≡ is_due_at scene.now i }
@@ -20,7 +20,7 @@ fn is_due(scene: &Scene, i: u32) -> bool
 }
 
 /// Where the particle stands, and how far it reaches.
-fn spot(scene: &Scene, i: u32) -> Spot
+pub(crate) fn spot(scene: &Scene, i: u32) -> Spot
     requires good { IsGoodScene scene.now }
     requires within { i < length scene.now.start }
     ensures { result ≡ first_spot scene.now i }
@@ -38,7 +38,7 @@ fn spot(scene: &Scene, i: u32) -> Spot
 }
 
 /// What the particle gives to the forces of its pairs, by the ghost that its last kick left.
-fn pull(scene: &Scene, i: u32) -> Pull
+pub(crate) fn pull(scene: &Scene, i: u32) -> Pull
     requires good { IsGoodScene scene.now }
     requires within { i < length scene.now.start }
     ensures { result ≡ first_pull scene.now i }
@@ -48,7 +48,7 @@ fn pull(scene: &Scene, i: u32) -> Pull
 }
 
 /// The particle's density, not begun where it is due.
-fn rho(scene: &Scene, i: u32) -> u64
+pub(crate) fn rho(scene: &Scene, i: u32) -> u64
     requires good { IsGoodScene scene.now }
     requires within { i < length scene.now.start }
     ensures { result ≡ first_rho scene.now i }
@@ -61,7 +61,7 @@ fn rho(scene: &Scene, i: u32) -> u64
 }
 
 /// The force on the particle, not begun where it is due.
-fn force(scene: &Scene, i: u32) -> [i128; 3]
+pub(crate) fn force(scene: &Scene, i: u32) -> [i128; 3]
     requires good { IsGoodScene scene.now }
     requires within { i < length scene.now.start }
     ensures { result ≡ first_force scene.now i }
@@ -73,89 +73,20 @@ fn force(scene: &Scene, i: u32) -> [i128; 3]
     }
 }
 
-/// The spots of some particles.
-pub(crate) fn spots(alloc: Global, scene: &Scene, members: &[u32]) -> Result<Vec<Spot>, AllocError>
-    requires good { IsGoodScene scene.now }
-    requires within { All (λ i. i < length scene.now.start) members.now }
-    ensures { IfOk result (λ v. v.items ≡ map (first_spot scene.now) members.now) }
-{
-    let mut spots = Vec::with_capacity(alloc, members.len())?;
-    for i in members {
-        spots.push(spot(scene, *i))?;
-    }
-    Ok(spots)
-}
-
-/// The pulls of some particles.
-pub(crate) fn pulls(alloc: Global, scene: &Scene, members: &[u32]) -> Result<Vec<Pull>, AllocError>
-    requires good { IsGoodScene scene.now }
-    requires within { All (λ i. i < length scene.now.start) members.now }
-    ensures { IfOk result (λ v. v.items ≡ map (first_pull scene.now) members.now) }
-{
-    let mut pulls = Vec::with_capacity(alloc, members.len())?;
-    for i in members {
-        pulls.push(pull(scene, *i))?;
-    }
-    Ok(pulls)
-}
-
-/// Which of some particles are due.
-pub(crate) fn dues(alloc: Global, scene: &Scene, members: &[u32]) -> Result<Vec<bool>, AllocError>
-    requires good { IsGoodScene scene.now }
-    requires within { All (λ i. i < length scene.now.start) members.now }
-    ensures { IfOk result (λ v. v.items ≡ map (is_due_at scene.now) members.now) }
-{
-    let mut dues = Vec::with_capacity(alloc, members.len())?;
-    for i in members {
-        dues.push(is_due(scene, *i))?;
-    }
-    Ok(dues)
-}
-
-/// The densities of some particles.
-pub(crate) fn rhos(alloc: Global, scene: &Scene, members: &[u32]) -> Result<Vec<u64>, AllocError>
-    requires good { IsGoodScene scene.now }
-    requires within { All (λ i. i < length scene.now.start) members.now }
-    ensures { IfOk result (λ v. v.items ≡ map (first_rho scene.now) members.now) }
-{
-    let mut rhos = Vec::with_capacity(alloc, members.len())?;
-    for i in members {
-        rhos.push(rho(scene, *i))?;
-    }
-    Ok(rhos)
-}
-
-/// The forces on some particles.
-pub(crate) fn forces(
+/// What a function gives for each of some members, in their order.
+pub(crate) fn each<T: Drop, F: Fn(u32) -> T>(
     alloc: Global,
-    scene: &Scene,
     members: &[u32],
-) -> Result<Vec<[i128; 3]>, AllocError>
-    requires good { IsGoodScene scene.now }
-    requires within { All (λ i. i < length scene.now.start) members.now }
-    ensures { IfOk result (λ v. v.items ≡ map (first_force scene.now) members.now) }
+    of: F,
+) -> Result<Vec<T>, AllocError>
+    requires { All (F.pre of) members.now }
+    ensures { IfOk result (λ v. AreGiven (F.post of) members.now v.items) }
 {
-    let mut forces = Vec::with_capacity(alloc, members.len())?;
+    let mut each = Vec::with_capacity(alloc, members.len())?;
     for i in members {
-        forces.push(force(scene, *i))?;
+        each.push(of(*i))?;
     }
-    Ok(forces)
-}
-
-/// Copies of some particles.
-pub(crate) fn particles(
-    alloc: Global,
-    scene: &Scene,
-    members: &[u32],
-) -> Result<Vec<Particle>, AllocError>
-    requires { All (λ i. i < length scene.now.start) members.now }
-    ensures { IfOk result (λ v. v.items ≡ map (particle_at scene.now) members.now) }
-{
-    let mut particles = Vec::with_capacity(alloc, members.len())?;
-    for i in members {
-        particles.push(*scene.particle(*i))?;
-    }
-    Ok(particles)
+    Ok(each)
 }
 
 /// Marks for some tasks, none of them done.

@@ -19,7 +19,7 @@ pub struct Interval {
 impl Interval {
     ghost use Rattle.std.specs.Prelude.{◌≡◌, ℕ, ◌≤◌, min, max};
     ghost use Rattle.sph_num.specs.Space.{apart};
-    ghost use Rattle.cell_block.specs.Extents.{IsIn};
+    ghost use Rattle.cell_block.specs.Extents.{IsIn, gap_of};
 
     /// The interval with a coordinate more.
     #[inline]
@@ -37,6 +37,7 @@ impl Interval {
     /// No coordinate of the one is nearer than this to one of the other, either way round.
     #[inline]
     fn gap(self, other: Interval) -> u32
+        ensures value { result ≡ gap_of self other }
         ensures keeps { (x y : ℕ) → IsIn self x → IsIn other y → result ≤ apart x y }
         ensures small { result < box_side }
     {
@@ -62,7 +63,7 @@ impl Extent {
     ghost use Rattle.std.specs.Prelude.{◌≡◌, true};
     ghost use Rattle.sph_num.specs.Space.{IsPlace};
     ghost use Rattle.cell_block.specs.declared.rows.Spot.{Spot};
-    ghost use Rattle.cell_block.specs.Extents.{AreApart, AreWithin, HavePlaces, IsWithin};
+    ghost use Rattle.cell_block.specs.Extents.{AreApart, AreWithin, HavePlaces, IsWithin, is_apart};
 
     /// A box round some spots, with a length that none of theirs exceeds; of no spots the empty box.
     pub fn of(spots: &[Spot]) -> Extent
@@ -80,7 +81,8 @@ impl Extent {
     /// answer may be no where none is.
     #[inline]
     pub fn is_apart(&self, other: &Extent) -> bool
-        ensures { result ≡ true → AreApart self.now other.now }
+        ensures value { result ≡ is_apart self.now other.now }
+        ensures beyond { result ≡ true → AreApart self.now other.now }
     {
         let reach = u64::from(self.h.max(other.h));
         let x = u64::from(self.x.gap(other.x));

@@ -37,12 +37,7 @@ impl BlockRows {
         requires within { i < vec_len self.now.members }
         ensures { result ≡ member_of self.now i }
     {
-        Particle {
-            rho: self.rhos[i],
-            g: self.pulls[i].g(),
-            f: self.forces[i],
-            ..self.particles[i]
-        }
+        self.moving[i].with_sums(self.rhos[i], self.pulls[i].g(), self.forces[i])
     }
 
     /// Where the member at a place from 0 stands, in length units.

@@ -2,11 +2,13 @@
 ghost use Rattle.std.specs.Prelude.{◌≡◌, ◌<◌, [], length, IfOk};
 ghost use Rattle.cell_block.specs.Blocks.{Agrees, done_of, tasks_at};
 ghost use Rattle.cell_block.specs.Scene.{IsGoodScene, members_of};
+ghost use Rattle.cell_block.specs.inner.Beginning.{first_force};
 
-use crate::beginning;
+use crate::beginning::{each, force, is_due, marks, pull, rho, spot};
 use crate::extent::Extent;
+use crate::moving::Moving;
 use crate::scene::Scene;
-use sph_num::{Particle, Pull};
+use sph_num::Pull;
 use std::alloc::{AllocError, Global};
 
 /// Where a member is and how far it reaches: all that the test of a pair's distance reads, in 16 bytes.
@@ -46,9 +48,8 @@ pub struct BlockRows {
     pub rhos: Vec<u64>,
     /// The forces: of a due member as far as they are summed.
     pub forces: Vec<[i128; 3]>,
-    /// What only a kick reads and writes. The densities, ghosts and forces in here mean nothing: these stand in
-    /// the lists above.
-    pub particles: Vec<Particle>,
+    /// What a kick reads and writes of a member beside these.
+    pub moving: Vec<Moving>,
 }
 
 impl BlockRows {
@@ -65,18 +66,22 @@ impl BlockRows {
         ensures { IfOk result (λ block. Agrees scene.now leaf block × (done_of block ≡ [])) }
     {
         let members = members_of(alloc, scene, leaf)?;
-        let spots = beginning::spots(alloc, scene, &members)?;
+        let spots = each(alloc, &members, |i| spot(scene, i))?;
         let extent = Extent::of(&spots);
+        let force_on = |i: u32| -> [i128; 3]
+            requires { IsGoodScene scene.now × (i < length scene.now.start) }
+            ensures { result ≡ first_force scene.entry.now i }
+        { force(scene, i) };
         Ok(BlockRows {
             leaf,
-            marks: beginning::marks(alloc, tasks)?,
+            marks: marks(alloc, tasks)?,
             extent,
             spots,
-            pulls: beginning::pulls(alloc, scene, &members)?,
-            due: beginning::dues(alloc, scene, &members)?,
-            rhos: beginning::rhos(alloc, scene, &members)?,
-            forces: beginning::forces(alloc, scene, &members)?,
-            particles: beginning::particles(alloc, scene, &members)?,
+            pulls: each(alloc, &members, |i| pull(scene, i))?,
+            due: each(alloc, &members, |i| is_due(scene, i))?,
+            rhos: each(alloc, &members, |i| rho(scene, i))?,
+            forces: each(alloc, &members, force_on)?,
+            moving: each(alloc, &members, |i| Moving::of(scene.particle(i)))?,
             members,
         })
     }

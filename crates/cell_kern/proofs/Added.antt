@@ -15,7 +15,7 @@ use Rattle.sph_bins.specs.Kick.{ghost_at}
 use Rattle.cell_block.specs.declared.rows.BlockRows.{BlockRows}
 use Rattle.cell_block.specs.declared.rows.Mark.{Mark}
 use Rattle.cell_block.specs.declared.scene.Scene.{Scene}
-use Rattle.cell_block.specs.Blocks.{Agrees, AreAdded, AreDoneWith, AreReady, IsAdded, done_of, rest_of}
+use Rattle.cell_block.specs.Blocks.{Agrees, AreAdded, AreDoneWith, AreReady, IsAdded, done_of}
 use Rattle.cell_block.specs.Content.{is_done_on, met}
 use Rattle.cell_block.specs.Extents.{AreWithin}
 use Rattle.cell_block.specs.Scene.{IsGoodScene, is_due_at, is_in, line_at, members_in, members_of, particle_at, place_of, touches}
@@ -122,7 +122,7 @@ density_added scene task leaf before mid after all kind agrees given marked each
       rhos = given.rhos
           ∙ column_given rho_given (λ i. rho_with scene (met scene Density done i) i) (λ i. rho_with scene (new i) i) scene leaf before before.rhos.items all agrees parts.rhos (λ i at. each i at more);
       forces = ap (λ (b : BlockRows). b.forces.items) given.unchanged ∙ parts.forces;
-      particles = ap (λ (b : BlockRows). map rest_of b.particles.items) given.unchanged ∙ parts.particles;
+      moving = ap (λ (b : BlockRows). b.moving.items) given.unchanged ∙ parts.moving;
     })
     marked
     (λ added. done_more scene leaf task done done' added (ap (λ k. same_kind k Drift) kind) (ap (λ k. same_kind k Ghost) kind) (ap (λ k. same_kind k Kick) kind) new old (λ i. refl)
@@ -147,7 +147,7 @@ force_added scene task leaf before mid after all kind agrees given marked each =
       rhos = ap (λ (b : BlockRows). b.rhos.items) given.unchanged ∙ parts.rhos;
       forces = given.forces
           ∙ column_given force_given (λ i. force_with scene (met scene Force done i) i) (λ i. force_with scene (new i) i) scene leaf before before.forces.items all agrees parts.forces (λ i at. each i at more);
-      particles = ap (λ (b : BlockRows). map rest_of b.particles.items) given.unchanged ∙ parts.particles;
+      moving = ap (λ (b : BlockRows). b.moving.items) given.unchanged ∙ parts.moving;
     })
     marked
     (λ added. done_more scene leaf task done done' added (ap (λ k. same_kind k Drift) kind) (ap (λ k. same_kind k Ghost) kind) (ap (λ k. same_kind k Kick) kind) old new

@@ -1,5 +1,5 @@
 -- From what a task on a leaf wrote into a list of its block to the task added.
-use Rattle.std.proofs.Common.{◌≡◌, ℕ, ◌<◌, ◌≤◌, ◌||◌, Bool, true, false, inl, inr, if◌then◌else◌, List, [], length, map, get_or, All, Contains, subst, refl, sym, ap, ◌∙◌, arith}
+use Rattle.std.proofs.Common.{◌≡◌, ℕ, ◌<◌, ◌≤◌, ◌||◌, Bool, true, false, inl, inr, if◌then◌else◌, List, [], length, get_or, All, Contains, subst, refl, sym, ap, ◌∙◌, arith}
 use Rattle.std.specs.Prelude.{⊤}
 use Rattle.std.proofs.lemmas.Bool.{cases_Bool}
 use Rattle.std.proofs.lemmas.List.{get_or_default, get_or-map, length-map, map-id}
@@ -16,7 +16,7 @@ use Rattle.sph_bins.proofs.Narrow.{density_at-ge}
 use Rattle.cell_block.specs.declared.rows.BlockRows.{BlockRows}
 use Rattle.cell_block.specs.declared.rows.Spot.{Spot}
 use Rattle.cell_block.specs.declared.scene.Scene.{Scene}
-use Rattle.cell_block.specs.Blocks.{Agrees, AreDoneWith, IsAdded, IsReady, done_of, rest_of}
+use Rattle.cell_block.specs.Blocks.{Agrees, AreDoneWith, IsAdded, IsReady, done_of}
 use Rattle.cell_block.specs.Content.{is_done_on, met}
 use Rattle.cell_block.specs.Extents.{AreWithin, HavePlaces}
 use Rattle.cell_block.specs.Scene.{IsGoodScene, is_due_at, line_at, members_of, no_particle, particle_at, place_of, touches}
@@ -131,7 +131,7 @@ drift_added scene task before mid after good is ready written unchanged within m
       pulls = ap (λ (x : BlockRows). x.pulls.items) unchanged ∙ parts.pulls;
       rhos = ap (λ (x : BlockRows). x.rhos.items) unchanged ∙ parts.rhos;
       forces = ap (λ (x : BlockRows). x.forces.items) unchanged ∙ parts.forces;
-      particles = ap (λ (x : BlockRows). map rest_of x.particles.items) unchanged ∙ parts.particles;
+      moving = ap (λ (x : BlockRows). x.moving.items) unchanged ∙ parts.moving;
     })
     marked
 
@@ -203,6 +203,6 @@ ghost_added scene task before mid after good is ready written unchanged marked =
       pulls = sym (map-id mid.pulls.items) ∙ written_of_members (λ p. p) (ghosts_at sound before.due.items before.rhos.items) ms (pull_with scene true) before.pulls.items mid.pulls.items (puller 0 0 0) long written each;
       rhos = ap (λ (x : BlockRows). x.rhos.items) unchanged ∙ parts.rhos;
       forces = ap (λ (x : BlockRows). x.forces.items) unchanged ∙ parts.forces;
-      particles = ap (λ (x : BlockRows). map rest_of x.particles.items) unchanged ∙ parts.particles;
+      moving = ap (λ (x : BlockRows). x.moving.items) unchanged ∙ parts.moving;
     })
     marked

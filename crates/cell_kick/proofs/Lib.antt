@@ -8,4 +8,3 @@ mod Turns
 mod InOrder
 mod OneLeaf
 mod TwoBins
-mod WorkedPair

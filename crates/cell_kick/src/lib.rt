@@ -6,4 +6,4 @@ mod tasks;
 #[cfg(test)]
 mod tests;
 
-pub use tasks::{drift, ghost_, kick};
+pub use tasks::{drift, kick, set_ghosts};

@@ -2,12 +2,13 @@
 ghost use Rattle.std.specs.Prelude.{◌≡◌, ℕ, ◌<◌, ◌≤◌, true, false, All, length, get_or};
 ghost use Rattle.sph_num.specs.Force.{ghost_value};
 ghost use Rattle.sph_num.specs.Pull.{puller};
-ghost use Rattle.cell_block.specs.Scene.{IsGoodScene, no_particle};
-ghost use Rattle.cell_kick.specs.inner.Written.{AreEach, AreSummed, CanKick, kick_at, kicked_by, ghosts_at, spots_at, tick_spot};
+ghost use Rattle.cell_block.specs.Reading.{no_moving};
+ghost use Rattle.cell_block.specs.Scene.{IsGoodScene};
+ghost use Rattle.cell_kick.specs.inner.Written.{AreEach, AreSummed, CanKick, force_at_index, kick_at, kicked_by, ghosts_at, spots_at, tick_spot};
 
-use cell_block::{Scene, Spot};
+use cell_block::{Moving, Scene, Spot};
 use sph_bins::kick;
-use sph_num::{Particle, Pull, ghost_of};
+use sph_num::{Pull, ghost_of};
 
 /// What a kick reads of the members: three lists with an element for each.
 #[derive(Clone, Copy, Debug)]
@@ -67,38 +68,31 @@ fn with_ghost(sound: u32, rho: u64, pull: &Pull) -> Pull
 }
 
 /// Kicks the due ones of some members.
-pub(crate) fn kick_members(scene: &Scene, summed: &Summed, particles: &mut [Particle])
+pub(crate) fn kick_members(scene: &Scene, summed: &Summed, moving: &mut [Moving])
     requires good { IsGoodScene scene.now }
-    requires one_each { AreSummed summed.now (length particles.old) }
-    requires ready { (k : ℕ) → k < length particles.old → get_or summed.now.due.now k false ≡ true → CanKick scene.now summed.now k (get_or particles.old k no_particle) }
-    ensures { AreEach (kick_at scene.now summed.now) particles.old particles.new }
+    requires one_each { AreSummed summed.now (length moving.old) }
+    requires ready { (k : ℕ) → k < length moving.old → get_or summed.now.due.now k false ≡ true → CanKick scene.now summed.now k (get_or moving.old k no_moving) }
+    ensures { AreEach (kick_at scene.now summed.now) moving.old moving.new }
 {
-    for k in 0..particles.len() {
+    for k in 0..moving.len() {
         let is_due = summed.due[k];
         if is_due {
-            particles[k] = kicked(scene, summed, k, &particles[k]);
+            moving[k] = kicked(scene, summed, k, &moving[k]);
         }
     }
 }
 
-/// A member after its kick, which leaves its ghost and its density as they are.
-fn kicked(scene: &Scene, summed: &Summed, k: usize, particle: &Particle) -> Particle
+/// A member after its kick, which reads neither its density nor its ghost.
+fn kicked(scene: &Scene, summed: &Summed, k: usize, member: &Moving) -> Moving
     requires good { IsGoodScene scene.now }
     requires one_each { AreSummed summed.now (length summed.now.spots.now) }
     requires within { k < length summed.now.spots.now }
-    requires ready { CanKick scene.now summed.now k particle.now }
-    ensures { result ≡ kicked_by scene.now summed.now k particle.now }
+    requires ready { CanKick scene.now summed.now k member.now }
+    ensures { result ≡ kicked_by scene.now (force_at_index summed.now k) member.now }
 {
-    let mut kicked = *particle;
     let place = summed.spots[k].place;
     let force = summed.forces[k];
-    kick(
-        &scene.params,
-        scene.tick,
-        place,
-        force,
-        particle.g,
-        &mut kicked,
-    );
-    kicked
+    let mut particle = member.with_sums(0, 0, force);
+    kick(&scene.params, scene.tick, place, force, 0, &mut particle);
+    Moving::of(&particle)
 }

@@ -22,7 +22,7 @@ pub fn drift(scene: &Scene, task: u32, block: &mut BlockRows)
 
 /// Makes the ghost of each due member of a leaf from its density, which is whole by then. The block is that
 /// of the task's leaf.
-pub fn ghost_(scene: &Scene, task: u32, block: &mut BlockRows)
+pub fn set_ghosts(scene: &Scene, task: u32, block: &mut BlockRows)
     requires scene { IsGoodScene scene.now }
     requires task { IsTask scene.now Ghost task }
     requires block { IsReady scene.now task (line_at scene.now task).first.0 block.old }
@@ -50,6 +50,6 @@ pub fn kick(scene: &Scene, task: u32, block: &mut BlockRows)
         due: block.due.as_slice(),
         forces: block.forces.as_slice(),
     };
-    kick_members(scene, &summed, block.particles.as_mut_slice());
+    kick_members(scene, &summed, block.moving.as_mut_slice());
     block.mark(task);
 }

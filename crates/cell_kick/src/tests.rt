@@ -7,8 +7,9 @@ ghost use Rattle.cell_kick.specs.inner.OneLeaf.{one_leaf_lines};
 ghost use Rattle.cell_kick.specs.inner.Face.{across_face, six_lines};
 
 mod beginning;
+mod boxes;
 
-use crate::{drift, ghost_, kick};
+use crate::{drift, kick, set_ghosts};
 use cell_block::{Block, Flat, Scene, TaskLine};
 use cell_kern::{density_pair, density_self, force_pair, force_self};
 use sph_num::{Bounds, Kind, Params, Particle, ParticleList, Tables};
@@ -62,16 +63,7 @@ const HEAVY: Particle = Particle {
     bin: 1,
 };
 
-const PAIR_PARAMS: Params = Params {
-    ticks: 0,
-    every: 1,
-    bin_max: 0,
-    shift: 20,
-    accuracy: 0,
-    ..PARAMS
-};
-
-const PAIR_BOUNDS: Bounds = Bounds {
+const FACE_BOUNDS: Bounds = Bounds {
     count: 2,
     mass: (1024, 1024),
     h: (1024, 1024),
@@ -117,61 +109,24 @@ fn tasks(alloc: Global, drift: bool) -> Result<Vec<TaskLine>, AllocError>
     }
 }
 
-/// A scene of two particles in one leaf.
-fn scene_of(
-    alloc: Global,
-    tick: u32,
-    params: Params,
-    bounds: Bounds,
-    pair: [Particle; 2],
-    drift: bool,
-) -> Result<Scene, AllocError>
-    ensures { IfOk result (λ scene. scene ≡ record {
-      tick = tick;
-      params = params;
-      bounds = bounds;
-      start = pair;
-      leaves = (0 ∷ 1 ∷ []) ∷ [];
-      tasks = one_leaf_lines drift;
-      drift = drift;
-    }) }
-{
-    let [first, second] = pair;
-    let mut leaves = Vec::with_capacity(alloc, 1)?;
-    leaves.push(Flat::from_vec(vec![in alloc; 0, 1]?))?;
-    Ok(Scene {
-        tick,
-        params,
-        bounds,
-        start: ParticleList::from_vec(vec![in alloc; first, second]?),
-        leaves: Flat::from_vec(leaves),
-        tasks: Flat::from_vec(tasks(alloc, drift)?),
-        drift,
-    })
-}
-
-/// Two equal particles at half their reach, at tick 0.
-fn worked_pair(alloc: Global, drift: bool) -> Result<Scene, AllocError>
-    ensures good { IfOk result IsGoodScene }
-    ensures leaves { IfOk result (λ scene. length scene.leaves ≡ 1) }
-    ensures tasks { IfOk result (λ scene. scene.tasks ≡ one_leaf_lines scene.drift) }
-    ensures drift { IfOk result (λ scene. scene.drift ≡ drift) }
-{
-    let far = Particle {
-        x0: [1512, 0, 0],
-        ..RESTING
-    };
-    scene_of(alloc, 0, PAIR_PARAMS, PAIR_BOUNDS, [RESTING, far], drift)
-}
-
-/// A light and a heavy particle at tick 1, at which the first alone is due.
+/// A light and a heavy particle in one leaf at tick 1, at which the first alone is due.
 fn two_bins(alloc: Global, drift: bool) -> Result<Scene, AllocError>
     ensures good { IfOk result IsGoodScene }
     ensures leaves { IfOk result (λ scene. length scene.leaves ≡ 1) }
     ensures tasks { IfOk result (λ scene. scene.tasks ≡ one_leaf_lines scene.drift) }
     ensures drift { IfOk result (λ scene. scene.drift ≡ drift) }
 {
-    scene_of(alloc, 1, PARAMS, BOUNDS, [LIGHT, HEAVY], drift)
+    let mut leaves = Vec::with_capacity(alloc, 1)?;
+    leaves.push(Flat::from_vec(vec![in alloc; 0, 1]?))?;
+    Ok(Scene {
+        tick: 1,
+        params: PARAMS,
+        bounds: BOUNDS,
+        start: ParticleList::from_vec(vec![in alloc; LIGHT, HEAVY]?),
+        leaves: Flat::from_vec(leaves),
+        tasks: Flat::from_vec(tasks(alloc, drift)?),
+        drift,
+    })
 }
 
 /// Does a task on the first leaf alone.
@@ -185,7 +140,7 @@ fn do_task(scene: &Scene, tables: &Tables, kind: Kind, task: u32, block: &mut Bl
     match kind {
         Kind::Drift => drift(scene, task, block),
         Kind::Density => density_self(scene, tables, task, slice::from_mut(block)),
-        Kind::Ghost => ghost_(scene, task, block),
+        Kind::Ghost => set_ghosts(scene, task, block),
         Kind::Force => force_self(scene, tables, task, slice::from_mut(block)),
         Kind::Kick => kick(scene, task, block),
     }
@@ -203,43 +158,6 @@ fn finished(alloc: Global, scene: &Scene, tables: &Tables) -> Result<Block, Allo
         do_task(scene, tables, line.kind, task as u32, &mut block);
     }
     Ok(block)
-}
-
-/// What its kick at tick 0 leaves of a particle of the worked pair.
-fn kicked(x: u32, f: i128) -> Particle {
-    Particle {
-        x0: [x, 0, 0],
-        p: [f, 0, 0],
-        f: [f, 0, 0],
-        rho: 54_685_204_480,
-        g: 1286,
-        ..RESTING
-    }
-}
-
-#[test]
-fn steps_a_pair(rt: HostRuntime) -> Result<(), AllocError> {
-    let tables = Tables::new(rt.alloc())?;
-    let scene = worked_pair(rt.alloc(), false)?;
-    let block = finished(rt.alloc(), &scene, &tables)?;
-    assert!(rt; block.len() == 2);
-    assert_eq!(rt; block.particle(0), kicked(1000, -659_298_496_512));
-    assert_eq!(rt; block.particle(1), kicked(1512, 659_298_496_512));
-    Ok(())
-}
-
-#[test]
-fn drifts_nowhere_at_tick_0(rt: HostRuntime) -> Result<(), AllocError> {
-    let tables = Tables::new(rt.alloc())?;
-    let scene = worked_pair(rt.alloc(), true)?;
-    let block = finished(rt.alloc(), &scene, &tables)?;
-    assert!(rt; block.len() == 2);
-    assert_eq!(rt;
-        (block.place(0), block.place(1)),
-        ([1000, 0, 0], [1512, 0, 0])
-    );
-    assert_eq!(rt; block.particle(0), kicked(1000, -659_298_496_512));
-    Ok(())
 }
 
 #[test]
@@ -316,7 +234,7 @@ fn across_face(alloc: Global) -> Result<Scene, AllocError>
     Ok(Scene {
         tick: 1,
         params: PARAMS,
-        bounds: PAIR_BOUNDS,
+        bounds: FACE_BOUNDS,
         start: ParticleList::from_vec(vec![in alloc; DUE, WAITING]?),
         leaves: Flat::from_vec(leaves),
         tasks: Flat::from_vec(tasks_of_two(alloc)?),

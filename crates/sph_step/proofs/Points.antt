@@ -11,7 +11,7 @@ use Rattle.sph_bins.specs.Bins.{IsStepTick, is_due}
 use Rattle.sph_bins.specs.InBounds.{InBounds}
 use Rattle.sph_bins.specs.Kick.{place_at}
 use Rattle.cell_block.specs.Scene.{no_particle}
-use Rattle.cell_block.proofs.Ranges.{sound}
+use Rattle.sph_bins.proofs.Sound.{sound}
 use Rattle.cell_tree.specs.Laws.{CanBeMade}
 use Rattle.sph_step.specs.Made.{dues_at, made_at}
 

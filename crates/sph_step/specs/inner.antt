@@ -2,4 +2,5 @@
 pub mod Fresh
 pub mod Graphs
 pub mod Put
+pub mod Shares
 pub mod Told

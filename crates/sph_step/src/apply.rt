@@ -6,7 +6,7 @@ ghost use Rattle.cell_kern.specs.Tasks.{second_of};
 
 use cell_block::{Block, Scene};
 use cell_kern::{density_pair, density_self, force_pair, force_self};
-use cell_kick::{drift, ghost_, kick};
+use cell_kick::{drift, kick, set_ghosts};
 use sph_num::{Kind, Tables};
 
 /// Does a task on one cell. The blocks are those of the cell's leaves in order.
@@ -27,7 +27,7 @@ pub(crate) fn apply_on_one(
     match kind {
         Kind::Drift => drift(scene, task, &mut blocks[0]),
         Kind::Density => density_self(scene, tables, task, blocks),
-        Kind::Ghost => ghost_(scene, task, &mut blocks[0]),
+        Kind::Ghost => set_ghosts(scene, task, &mut blocks[0]),
         Kind::Force => force_self(scene, tables, task, blocks),
         Kind::Kick => kick(scene, task, &mut blocks[0]),
     }

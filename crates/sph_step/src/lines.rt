@@ -9,7 +9,7 @@ use std::alloc::{AllocError, Global};
 use task_graph::Graph;
 
 /// The lines of all tasks, from the range of leaves below each cell.
-pub(crate) fn lines_of(
+pub(crate) fn lines_in(
     alloc: Global,
     graph: &Graph,
     ranges: &[(u32, u32)],

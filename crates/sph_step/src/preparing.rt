@@ -16,7 +16,7 @@ ghost use Rattle.task_graph.specs.Graph.{graph_of};
 
 use crate::blocks::blocks_here;
 use crate::cells::{leaves_of, parents_of, ranges_of};
-use crate::lines::lines_of;
+use crate::lines::lines_in;
 use crate::stage::{Stage, StagePlan};
 use cell_block::{Block, Scene};
 use cell_tree::Tree;
@@ -79,7 +79,7 @@ fn plan_of(
     ensures kept { IfOk result (λ plan. IsStage plan) }
 {
     let tree = tree_of(alloc, deck, particles, t)?;
-    let graph = graph_of(alloc, deck, particles, t, &tree)?;
+    let graph = graph_of_cover(alloc, deck, particles, t, &tree)?;
     let parents = parents_of(alloc, &tree)?;
     let ranges = ranges_of(alloc, &tree)?;
     let scene = Scene {
@@ -88,7 +88,7 @@ fn plan_of(
         bounds: bounds_of(&deck.params, deck.particles.as_slice()),
         start: ParticleList::from_vec(Vec::from_slice(alloc, particles)?),
         leaves: leaves_of(alloc, &tree)?,
-        tasks: lines_of(alloc, &graph, &ranges)?,
+        tasks: lines_in(alloc, &graph, &ranges)?,
         drift: false,
     };
     Ok(StagePlan {
@@ -152,7 +152,7 @@ fn dues_of(
 }
 
 /// The graph of the cover of the tree, without drifts.
-fn graph_of(
+fn graph_of_cover(
     alloc: Global,
     deck: &Deck,
     particles: &[Particle],

@@ -2,6 +2,7 @@
 ghost use Rattle.std.specs.Prelude.{◌≡◌, ◌≤◌, OnErr, OnOk};
 ghost use Rattle.sph_bins.specs.Bins.{IsStepTick};
 ghost use Rattle.sph_plain.specs.Run.{after, before};
+ghost use Rattle.sph_step.specs.inner.Shares.{threads_for, workers_for};
 
 use crate::blocks::blocks_of;
 use crate::gathering::gather;
@@ -18,8 +19,8 @@ use std::thread::Threads;
 /// A further worker takes part for so many tasks: for fewer, starting a thread takes longer than doing them.
 const TASKS_A_WORKER: u32 = 32;
 
-/// A further thread makes blocks for so many leaves: to start a thread takes longer than to make some hundred blocks.
-const LEAVES_A_THREAD: u32 = 1_024;
+/// A further thread makes blocks for so many particles: to start a thread takes longer than to make those of fewer.
+const PARTICLES_A_THREAD: usize = 8_192;
 
 /// Steps through the graph of tasks, with the kernel's tables that these read.
 #[derive(Debug, Drop)]
@@ -36,7 +37,7 @@ impl GraphSteps {
 
     /// One step at tick `t` by so many workers, or by fewer where there are few tasks; each passes the gate with each
     /// task that it claimed, and what they leave passes it with the number behind theirs. The blocks are made by as
-    /// many threads, or by fewer where there are few leaves. The due particles are given their densities, ghosts,
+    /// many threads, or by fewer where there are few particles. The due particles are given their densities, ghosts,
     /// forces and kicks. The error is want of memory.
     pub fn step<R: Threads + Sync, G: Gate>(
         &self,
@@ -57,7 +58,7 @@ impl GraphSteps {
     {
         let tables = Arc::try_clone(&self.tables)?;
         let stage = stage_of(alloc, tables, deck, particles, t)?;
-        let threads = threads_for(stage.leaves(), workers);
+        let threads = threads_for(particles.len(), workers);
         let blocks = blocks_of(rt, alloc, &stage, threads)?;
         let some = workers_for(stage.tasks(), workers);
         match run_graph(rt, alloc, &stage, blocks, some, gate) {
@@ -71,19 +72,21 @@ impl GraphSteps {
 }
 
 /// How many workers do so many tasks, where so many may.
-fn workers_for(tasks: u32, most: u32) -> u32
+pub(crate) fn workers_for(tasks: u32, most: u32) -> u32
     requires { 1 ≤ most }
+    ensures value { result ≡ workers_for tasks most }
     ensures some { 1 ≤ result }
     ensures most { result ≤ most }
 {
     most.min(1 + tasks / TASKS_A_WORKER)
 }
 
-/// How many threads make the blocks of so many leaves, where so many may.
-fn threads_for(leaves: u32, most: u32) -> u32
-    ensures { result ≤ most }
+/// How many threads make the blocks of so many particles, where so many may.
+pub(crate) fn threads_for(particles: usize, most: u32) -> u32
+    ensures value { result ≡ threads_for particles most }
+    ensures most { result ≤ most }
 {
-    most.min(1 + leaves / LEAVES_A_THREAD)
+    (most as usize).min(1 + particles / PARTICLES_A_THREAD) as u32
 }
 
 /// One step at tick `t`, as `GraphSteps::step`, with tables of its own.

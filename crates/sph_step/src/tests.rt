@@ -1,7 +1,7 @@
 //! Pairs of particles, prepared and stepped.
 use crate::blocks::blocks_of;
+use crate::stepping::{threads_for, workers_for};
 use crate::{prepare, step};
-use qs_core::Work;
 use qs_gate::NoGate;
 use sph_deck::{Deck, read_deck};
 use sph_num::Particle;
@@ -45,17 +45,22 @@ const fn pressed(h: u32, x: u32, rho: u64, g: u64, f: i128) -> Particle {
     }
 }
 
+/// One more for each so many, from there on, and none beyond those that may.
 #[test]
-fn makes_a_block_for_each_leaf(rt: HostRuntime) -> Result<(), Fail> {
-    let alloc = rt.alloc();
-    for (leaf, leaves) in [(16, 1), (1, 2)] {
-        let deck = pair(alloc, leaf, HALF_REACH)?;
-        let particles = start(alloc, &deck)?;
-        let (stage, blocks) = prepare(alloc, &deck, &particles, 0)?;
-        assert_eq!(rt; stage.leaves(), leaves);
-        assert_eq!(rt; blocks.len(), leaves as usize);
+fn shares_out_by_tasks_and_by_particles(rt: HostRuntime) {
+    for (tasks, want) in [(0, 1), (31, 1), (32, 2), (95, 3), (96, 4), (u32::MAX, 4)] {
+        assert_eq!(rt; workers_for(tasks, 4), want, "{tasks} tasks");
     }
-    Ok(())
+    for (particles, want) in [
+        (0, 1),
+        (8_191, 1),
+        (8_192, 2),
+        (24_575, 3),
+        (24_576, 4),
+        (32_768, 4),
+    ] {
+        assert_eq!(rt; threads_for(particles, 4), want, "{particles} particles");
+    }
 }
 
 /// Five particles in a row, a smoothing length apart, each in a leaf of its own.
@@ -87,11 +92,10 @@ fn threads_make_the_same_blocks(rt: HostRuntime) -> Result<(), Fail> {
                 "{threads} threads"
             );
             assert_eq!(rt;
-                one.particles.as_slice(),
-                other.particles.as_slice(),
+                one.moving.as_slice(),
+                other.moving.as_slice(),
                 "{threads} threads"
             );
-            assert_eq!(rt; one.marks.len(), other.marks.len(), "{threads} threads");
         }
     }
     Ok(())

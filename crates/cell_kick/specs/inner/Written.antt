@@ -5,8 +5,11 @@ use Rattle.sph_num.specs.Force.{ghost_value}
 use Rattle.sph_num.specs.Motion.{IsMomentum}
 use Rattle.sph_num.specs.Pull.{Puller, puller}
 use Rattle.sph_bins.specs.Kick.{kicked_with}
+use Rattle.cell_block.specs.declared.moving.Moving.{Moving}
 use Rattle.cell_block.specs.declared.rows.Spot.{Spot}
 use Rattle.cell_block.specs.declared.scene.Scene.{Scene}
+use Rattle.cell_block.specs.Blocks.{moving_of}
+use Rattle.cell_block.specs.Reading.{with_sums}
 use Rattle.cell_block.specs.Scene.{particle_at, place_of}
 use Rattle.cell_kick.specs.declared.members.Summed.{Summed}
 
@@ -42,16 +45,20 @@ place_at_index summed k = (get_or summed.spots.now k (record { place = []; h = 0
 abbrev pub force_at_index : Summed → ℕ → List ℤ
 force_at_index summed k = get_or summed.forces.now k []
 
+-- a member with a force, where neither its density nor its ghost matters
+abbrev pub with_force : Moving → List ℤ → Particle
+with_force member f = with_sums member 0 0 f
+
 -- a member can be kicked: it stands at its place at the tick, and nothing of it is too large
-pub record CanKick (scene : Scene) (summed : Summed) (k : ℕ) (particle : Particle) : Type 0 where
-  pub bin : particle.bin ≤ 10
-  pub place : place_at_index summed k ≡ place_of scene particle
+pub record CanKick (scene : Scene) (summed : Summed) (k : ℕ) (member : Moving) : Type 0 where
+  pub bin : member.bin ≤ 10
+  pub place : place_at_index summed k ≡ place_of scene (with_force member (force_at_index summed k))
   pub force : IsMomentum (force_at_index summed k)
-  pub momentum : IsMomentum particle.p
+  pub momentum : IsMomentum member.p
 
--- the kick by the force of the lists, which leaves density and ghost
-abbrev pub kicked_by : Scene → Summed → ℕ → Particle → Particle
-kicked_by scene summed k particle = kicked_with scene.params scene.tick particle particle.rho particle.g (force_at_index summed k)
+-- what the kick by a force leaves of a member
+abbrev pub kicked_by : Scene → List ℤ → Moving → Moving
+kicked_by scene f member = moving_of (kicked_with scene.params scene.tick (with_force member f) 0 0 f)
 
-abbrev pub kick_at : Scene → Summed → ℕ → Particle → Particle
-kick_at scene summed k particle = if get_or summed.due.now k false then kicked_by scene summed k particle else particle
+abbrev pub kick_at : Scene → Summed → ℕ → Moving → Moving
+kick_at scene summed k member = if get_or summed.due.now k false then kicked_by scene (force_at_index summed k) member else member

@@ -4,7 +4,7 @@ ghost use Rattle.cell_block.specs.Reading.{IsWhole, tasks_of};
 ghost use Rattle.cell_block.specs.Scene.{IsGoodScene};
 ghost use Rattle.cell_kick.specs.inner.OneLeaf.{one_leaf_lines};
 
-use super::{HEAVY, LIGHT, RESTING, on_leaf, two_bins, worked_pair};
+use super::{HEAVY, LIGHT, on_leaf, two_bins};
 use cell_block::{Block, Scene, sums_are_whole, tasks_by_leaf};
 use sph_num::{Kind, Particle};
 use std::alloc::{AllocError, Global};
@@ -23,6 +23,7 @@ fn only_block(alloc: Global, scene: &Scene) -> Result<Block, AllocError>
 
 #[test]
 fn begins_the_sums_of_due_members_alone(rt: HostRuntime) -> Result<(), AllocError> {
+    sums_are_whole();
     let scene = two_bins(rt.alloc(), false)?;
     let block = only_block(rt.alloc(), &scene)?;
     assert_eq!(rt; block.leaf, 0);
@@ -40,21 +41,6 @@ fn begins_the_sums_of_due_members_alone(rt: HostRuntime) -> Result<(), AllocErro
 }
 
 #[test]
-fn begins_a_pair(rt: HostRuntime) -> Result<(), AllocError> {
-    sums_are_whole();
-    let scene = worked_pair(rt.alloc(), false)?;
-    let block = only_block(rt.alloc(), &scene)?;
-    assert!(rt; block.len() == 2);
-    assert_eq!(rt;
-        (block.place(0), block.place(1)),
-        ([1000, 0, 0], [1512, 0, 0])
-    );
-    assert_eq!(rt; block.particle(0), RESTING);
-    assert_eq!(rt; block.due.as_slice(), [true; 2].as_slice());
-    Ok(())
-}
-
-#[test]
 fn leaves_the_way_to_the_drift(rt: HostRuntime) -> Result<(), AllocError> {
     let scene = two_bins(rt.alloc(), true)?;
     assert_eq!(rt; scene.leaves.len(), 1);
@@ -66,19 +52,13 @@ fn leaves_the_way_to_the_drift(rt: HostRuntime) -> Result<(), AllocError> {
 }
 
 #[test]
-fn marks_a_task(rt: HostRuntime) -> Result<(), AllocError> {
-    let scene = two_bins(rt.alloc(), false)?;
-    let mut block = only_block(rt.alloc(), &scene)?;
-    block.mark(1);
-    assert_eq!(rt; (block.is_done(0), block.is_done(1)), (false, true));
-    Ok(())
-}
-
-#[test]
-fn finds_the_tasks_of_the_leaf(rt: HostRuntime) -> Result<(), AllocError> {
+fn marks_a_task_of_the_leaf(rt: HostRuntime) -> Result<(), AllocError> {
     let scene = two_bins(rt.alloc(), false)?;
     let lists = tasks_by_leaf(rt.alloc(), &scene)?;
     assert!(rt; lists.len() == 1);
     assert_eq!(rt; lists[0].as_slice(), [0, 1, 2, 3].as_slice());
+    let mut block = only_block(rt.alloc(), &scene)?;
+    block.mark(1);
+    assert_eq!(rt; (block.is_done(0), block.is_done(1)), (false, true));
     Ok(())
 }

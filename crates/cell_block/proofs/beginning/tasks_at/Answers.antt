@@ -1,9 +1,9 @@
 use Rattle.std.proofs.Common.{◌≡◌, ◌∙◌, ap, sym, get_or, List}
+use Rattle.lists.proofs.Ranges.{filter_range_no, filter_range_yes}
 use Rattle.sph_num.specs.declared.kind.Kind.TheVariants.{Drift}
 use Rattle.std.specs.Prelude.{None}
 use Rattle.cell_block.specs.declared.scene.TaskLine.{TaskLine}
 use Rattle.cell_block.specs.Scene.{line_at, touches}
-use Rattle.cell_block.proofs.FirstRows.{filter_range_no, filter_range_yes}
 use Rattle.cell_block.proofs.beginning.tasks_at.Goals as goal
 use Rattle.cell_block.proofs.beginning.tasks_at.Goals.{then-touches+in_ok-push, else-touches}
 

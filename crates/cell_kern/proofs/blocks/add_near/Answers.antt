@@ -6,12 +6,12 @@ pub returns-else-not-is_apart-clause-first : goal.returns-else-not-is_apart-clau
 returns-else-not-is_apart-clause-first c =
     let first = c.args.first.now in
     let second = c.args.second.now in
-    let all = blocks_far c.args.sums 2 first second c.requires.first c.requires.second (c.is_apart.ensures c.if-not-is_apart.false) in
+    let all = blocks_far c.args.sums 2 first second c.requires.first c.requires.second (c.is_apart.ensures.beyond c.if-not-is_apart.false) in
     taken_apart c.args.sums 2 first (rows_in second) c.requires.first (λ j d inside k e low. (all j d inside k e low).own)
 
 pub returns-else-not-is_apart-clause-second : goal.returns-else-not-is_apart-clause-second
 returns-else-not-is_apart-clause-second c =
     let first = c.args.first.now in
     let second = c.args.second.now in
-    let all = blocks_far c.args.sums 2 first second c.requires.first c.requires.second (c.is_apart.ensures c.if-not-is_apart.false) in
+    let all = blocks_far c.args.sums 2 first second c.requires.first c.requires.second (c.is_apart.ensures.beyond c.if-not-is_apart.false) in
     taken_apart c.args.sums 2 second (rows_in first) c.requires.second (λ k e low j d inside. (all j d inside k e low).others)

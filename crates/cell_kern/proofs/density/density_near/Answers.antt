@@ -14,14 +14,14 @@ pub returns-then-is_apart-clause-own : goal.returns-then-is_apart-clause-own
 returns-then-is_apart-clause-own c =
     let one = c.args.one.now in
     let list = list_of c.args.others.now in
-    let all = row_far one c.args.others.now c.point.result c.args.extent.now c.requires.one c.requires.others c.point.ensures c.requires.extent (c.is_apart.ensures c.if-is_apart.true) in
+    let all = row_far one c.args.others.now c.point.result c.args.extent.now c.requires.one c.requires.others c.point.ensures c.requires.extent (c.is_apart.ensures.beyond c.if-is_apart.true) in
     sym (rho_row_kept one c.args.sum list (All-weaker (AreFar one) (IsFar one) (λ m apart. apart.own) list all))
 
 pub returns-then-is_apart-clause-others : goal.returns-then-is_apart-clause-others
 returns-then-is_apart-clause-others c =
     let one = c.args.one.now in
     let list = list_of c.args.others.now in
-    let all = row_far one c.args.others.now c.point.result c.args.extent.now c.requires.one c.requires.others c.point.ensures c.requires.extent (c.is_apart.ensures c.if-is_apart.true) in
+    let all = row_far one c.args.others.now c.point.result c.args.extent.now c.requires.one c.requires.others c.point.ensures c.requires.extent (c.is_apart.ensures.beyond c.if-is_apart.true) in
     passed_nothing rho_given one list 0 c.args.rhos.now 0
     (λ k low. rho_kept (get_or list k no_member) (get_or c.args.rhos.now k 0) one (all k no_member (omega (arith, c.requires.count, length-list_of c.args.others.now c.requires.others))).others)
 

@@ -14,14 +14,14 @@ pub returns-else-not-is_apart-clause-own : goal.returns-else-not-is_apart-clause
 returns-else-not-is_apart-clause-own c =
     let one = c.args.one.now in
     let list = list_of c.args.others.now in
-    let all = row_far one c.args.others.now c.point.result c.args.extent.now c.requires.one c.requires.others c.point.ensures c.requires.extent (c.is_apart.ensures c.if-not-is_apart.false) in
+    let all = row_far one c.args.others.now c.point.result c.args.extent.now c.requires.one c.requires.others c.point.ensures c.requires.extent (c.is_apart.ensures.beyond c.if-not-is_apart.false) in
     sym (force_row_kept one c.args.sum.now list (λ due. (c.requires.room due).three) (All-weaker (AreFar one) (IsFar one) (λ m apart. apart.own) list all))
 
 pub returns-else-not-is_apart-clause-others : goal.returns-else-not-is_apart-clause-others
 returns-else-not-is_apart-clause-others c =
     let one = c.args.one.now in
     let list = list_of c.args.others.now in
-    let all = row_far one c.args.others.now c.point.result c.args.extent.now c.requires.one c.requires.others c.point.ensures c.requires.extent (c.is_apart.ensures c.if-not-is_apart.false) in
+    let all = row_far one c.args.others.now c.point.result c.args.extent.now c.requires.one c.requires.others c.point.ensures c.requires.extent (c.is_apart.ensures.beyond c.if-not-is_apart.false) in
     passed_nothing force_given one list 0 c.args.forces.now []
     (λ k low. let inside : k < length list = omega (arith, c.requires.count, length-list_of c.args.others.now c.requires.others) in
     force_kept (get_or list k no_member) (get_or c.args.forces.now k []) one (λ due. (c.requires.rooms k inside due).three) (all k no_member inside).others)

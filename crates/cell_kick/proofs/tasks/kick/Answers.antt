@@ -23,8 +23,8 @@ returns c =
     let block = c.args.block.now in
     let summed : Summed = record { spots = c.as_slice.result; due = c.as_slice-2.result; forces = c.as_slice-3.result } in
     let made = kick_at c.args.scene.now summed in
-    let back = written_back block.particles.len block.particles.items c.kick_members.new.particles (omega (arith, block.particles.ok.0)) (c.kick_members.auto.particles ∙ ap length c.as_mut_slice.ensures.value) in
-    let written : AreEach made block.particles.items c.kick_members.new.particles = rw c.as_mut_slice.ensures.value at c.kick_members.ensures in
+    let back = written_back block.moving.len block.moving.items c.kick_members.new.moving (omega (arith, block.moving.ok.0)) (c.kick_members.auto.moving ∙ ap length c.as_mut_slice.ensures.value) in
+    let written : AreEach made block.moving.items c.kick_members.new.moving = rw c.as_mut_slice.ensures.value at c.kick_members.ensures in
     kick_added c.args.scene.now c.args.task block _ c.mark.new.self summed c.requires.scene c.requires.task c.requires.block
-    (record { spots = c.as_slice.ensures.value; due = c.as_slice-2.ensures.value; forces = c.as_slice-3.ensures.value }) (subst (AreEach made block.particles.items) (sym back) written) refl
+    (record { spots = c.as_slice.ensures.value; due = c.as_slice-2.ensures.value; forces = c.as_slice-3.ensures.value }) (subst (AreEach made block.moving.items) (sym back) written) refl
     c.mark.ensures

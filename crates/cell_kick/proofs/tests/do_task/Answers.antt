@@ -15,14 +15,14 @@ drift-requires-clause-block c = rw c.deref_mut.ensures.value (leaf_ready c.args.
 pub returns-in-Drift : goal.returns-in-Drift
 returns-in-Drift c = leaf_added c.args.scene.now c.args.kind c.args.task 0 c.args.block.now c.drift.new.block c.requires.line c.requires.first (rw c.deref_mut.ensures.value at c.drift.ensures)
 
-pub ghost_-requires-clause-task : goal.ghost_-requires-clause-task
-ghost_-requires-clause-task c = leaf_task c.args.scene.now Ghost c.args.task 0 c.requires.number (c.requires.line ∙ ap (λ (k : Kind). leaf_line k 0) c.in-Ghost.is)
+pub set_ghosts-requires-clause-task : goal.set_ghosts-requires-clause-task
+set_ghosts-requires-clause-task c = leaf_task c.args.scene.now Ghost c.args.task 0 c.requires.number (c.requires.line ∙ ap (λ (k : Kind). leaf_line k 0) c.in-Ghost.is)
 
-pub ghost_-requires-clause-block : goal.ghost_-requires-clause-block
-ghost_-requires-clause-block c = rw c.deref_mut-in-Ghost.ensures.value (leaf_ready c.args.scene.now c.args.kind c.args.task 0 c.args.block.now c.requires.line c.requires.good c.requires.first)
+pub set_ghosts-requires-clause-block : goal.set_ghosts-requires-clause-block
+set_ghosts-requires-clause-block c = rw c.deref_mut-in-Ghost.ensures.value (leaf_ready c.args.scene.now c.args.kind c.args.task 0 c.args.block.now c.requires.line c.requires.good c.requires.first)
 
 pub returns-in-Ghost : goal.returns-in-Ghost
-returns-in-Ghost c = leaf_added c.args.scene.now c.args.kind c.args.task 0 c.args.block.now c.ghost_.new.block c.requires.line c.requires.first (rw c.deref_mut-in-Ghost.ensures.value at c.ghost_.ensures)
+returns-in-Ghost c = leaf_added c.args.scene.now c.args.kind c.args.task 0 c.args.block.now c.set_ghosts.new.block c.requires.line c.requires.first (rw c.deref_mut-in-Ghost.ensures.value at c.set_ghosts.ensures)
 
 pub kick-requires-clause-task : goal.kick-requires-clause-task
 kick-requires-clause-task c = leaf_task c.args.scene.now Kick c.args.task 0 c.requires.number (c.requires.line ∙ ap (λ (k : Kind). leaf_line k 0) c.in-Kick.is)

@@ -15,11 +15,11 @@ returns-in-Drift c = one_added c.args.scene.now c.args.task Drift c.requires.sce
 pub bounds-blocks-0-in-Ghost : goal.bounds-blocks-0-in-Ghost
 bounds-blocks-0-in-Ghost c = omega (arith, one_block c.args.scene.now c.args.task Ghost c.requires.scene c.requires.task tt (c.requires.kind ∙ c.in-Ghost.is) c.args.blocks.now c.requires.ready)
 
-pub ghost_-requires-clause-block : goal.ghost_-requires-clause-block
-ghost_-requires-clause-block c = rw c.deref_mut-in-Ghost.ensures.value (one_ready c.args.scene.now c.args.task Ghost c.requires.scene c.requires.task tt (c.requires.kind ∙ c.in-Ghost.is) c.args.blocks.now c.requires.ready c.index-blocks-0-in-Ghost.result)
+pub set_ghosts-requires-clause-block : goal.set_ghosts-requires-clause-block
+set_ghosts-requires-clause-block c = rw c.deref_mut-in-Ghost.ensures.value (one_ready c.args.scene.now c.args.task Ghost c.requires.scene c.requires.task tt (c.requires.kind ∙ c.in-Ghost.is) c.args.blocks.now c.requires.ready c.index-blocks-0-in-Ghost.result)
 
 pub returns-in-Ghost : goal.returns-in-Ghost
-returns-in-Ghost c = one_added c.args.scene.now c.args.task Ghost c.requires.scene c.requires.task tt (c.requires.kind ∙ c.in-Ghost.is) c.args.blocks.now c.requires.ready c.index-blocks-0-in-Ghost.result c.ghost_.new.block (rw c.deref_mut-in-Ghost.ensures.value at c.ghost_.ensures)
+returns-in-Ghost c = one_added c.args.scene.now c.args.task Ghost c.requires.scene c.requires.task tt (c.requires.kind ∙ c.in-Ghost.is) c.args.blocks.now c.requires.ready c.index-blocks-0-in-Ghost.result c.set_ghosts.new.block (rw c.deref_mut-in-Ghost.ensures.value at c.set_ghosts.ensures)
 
 pub bounds-blocks-0-in-Kick : goal.bounds-blocks-0-in-Kick
 bounds-blocks-0-in-Kick c = omega (arith, one_block c.args.scene.now c.args.task Kick c.requires.scene c.requires.task tt (c.requires.kind ∙ c.in-Kick.is) c.args.blocks.now c.requires.ready)

@@ -1,7 +1,7 @@
 use Rattle.std.proofs.Common.{arith}
 use Rattle.sph_num.proofs.PastEnd.{no_particle}
 use Rattle.sph_num.specs.Bound.{bounds_of}
-use Rattle.cell_block.proofs.Ranges.{sound}
+use Rattle.sph_bins.proofs.Sound.{sound}
 use Rattle.sph_step.proofs.preparing.dues_of.Goals as goal
 
 pub due-requires : goal.due-requires

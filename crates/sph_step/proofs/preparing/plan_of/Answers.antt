@@ -20,13 +20,13 @@ tree_of-requires-clause-bounds c =
     let deck = c.args.deck.now in
     subst (InBounds deck.params (bounds_of deck.particles) c.args.t) (sym c.requires.before) (InBounds-before deck c.args.t deck.accepted c.requires.tick)
 
-pub graph_of-requires-clause-bounds : goal.graph_of-requires-clause-bounds
-graph_of-requires-clause-bounds c =
+pub graph_of_cover-requires-clause-bounds : goal.graph_of_cover-requires-clause-bounds
+graph_of_cover-requires-clause-bounds c =
     let deck = c.args.deck.now in
     subst (InBounds deck.params (bounds_of deck.particles) c.args.t) (sym c.requires.before) (InBounds-before deck c.args.t deck.accepted c.requires.tick)
 
-pub lines_of-requires : goal.lines_of-requires
-lines_of-requires c =
+pub lines_in-requires : goal.lines_in-requires
+lines_in-requires c =
     let ranges = c.in_ok-ranges.ranges.items in
     let tasks = c.in_ok-graph.graph.tasks in
     subst (λ (rs : List (ℕ × ℕ)). All (IsAmong (length rs)) tasks) (sym c.deref.ensures.value) (among c.in_ok-tree.tree (length ranges) tasks (sym c.in_ok-ranges.ensures.one_each) c.in_ok-graph.ensures.graph.on_spans)
@@ -42,15 +42,15 @@ returns c =
     let graph = c.in_ok-graph.graph in
     let spans = spans_at params t list in
     let plan : StagePlan = record {
-      scene = record { tick = t; params = params; bounds = c.bounds_of.result; start = c.from_vec.result; leaves = c.in_ok-leaves_of.field-0; tasks = c.in_ok-lines_of.field-0; drift = false };
+      scene = record { tick = t; params = params; bounds = c.bounds_of.result; start = c.from_vec.result; leaves = c.in_ok-leaves_of.field-0; tasks = c.in_ok-lines_in.field-0; drift = false };
       parents = c.in_ok-parents.parents;
       ranges = c.in_ok-ranges.ranges;
       graph = graph;
     } in
     let are = subst (InBounds params bounds t) (sym c.requires.before) (InBounds-before deck t deck.accepted c.requires.tick) in
-    let tasks_are = c.in_ok-lines_of.ensures ∙ ap (λ (rs : List (ℕ × ℕ)). map (line_in rs) graph.tasks) c.deref.ensures.value in
+    let tasks_are = c.in_ok-lines_in.ensures ∙ ap (λ (rs : List (ℕ × ℕ)). map (line_in rs) graph.tasks) c.deref.ensures.value in
     let of : IsStageOf params bounds t list plan =
-    stage_is params bounds t list tree plan c.bounds_of.result c.from_vec.result c.in_ok-leaves_of.field-0 c.in_ok-lines_of.field-0 c.in_ok-tree.ensures refl
+    stage_is params bounds t list tree plan c.bounds_of.result c.from_vec.result c.in_ok-leaves_of.field-0 c.in_ok-lines_in.field-0 c.in_ok-tree.ensures refl
     (c.bounds_of.ensures ∙ ap bounds_of c.as_slice.ensures) (c.from_vec.ensures ∙ c.in_ok-from_slice.ensures.items) c.in_ok-leaves_of.ensures tasks_are c.in_ok-parents.ensures c.in_ok-ranges.ensures c.in_ok-graph.ensures.value in
     record {
       of = of;

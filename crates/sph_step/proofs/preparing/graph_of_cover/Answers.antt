@@ -8,7 +8,7 @@ use Rattle.task_graph.specs.Graph.{Plan, graph_of}
 use Rattle.sph_step.specs.Made.{dues_at, spans_at}
 use Rattle.sph_step.specs.inner.Graphs.{IsGraphOn}
 use Rattle.sph_step.proofs.Prepared.{flags, graph_on, points_count, spans_are, spans_few}
-use Rattle.sph_step.proofs.preparing.graph_of.Goals as goal
+use Rattle.sph_step.proofs.preparing.graph_of_cover.Goals as goal
 
 pub cover-requires-clause-one_flag_each : goal.cover-requires-clause-one_flag_each
 cover-requires-clause-one_flag_each c =

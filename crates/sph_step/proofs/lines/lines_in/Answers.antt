@@ -5,7 +5,7 @@ use Rattle.cell_block.specs.declared.scene.TaskLine.{TaskLine}
 use Rattle.task_graph.specs.Tasks.{cell_task}
 use Rattle.sph_step.specs.Stage.{line_in}
 use Rattle.sph_step.proofs.Filled.{map_next}
-use Rattle.sph_step.proofs.lines.lines_of.Goals as goal
+use Rattle.sph_step.proofs.lines.lines_in.Goals as goal
 
 pub line-requires-clause-cells : goal.line-requires-clause-cells
 line-requires-clause-cells c = c.requires c.loop-task.task (cell_task Drift 0) (omega (arith, c.tasks-task-end.ensures.count))

@@ -4,7 +4,7 @@ use Rattle.sph_num.specs.declared.kind.Kind.TheVariants.{Ghost}
 use Rattle.cell_block.proofs.Added.{keeps_task}
 use Rattle.cell_kick.specs.inner.Written.{AreEach, ghosts_at}
 use Rattle.cell_kick.proofs.Added.{dense, ghost_added, leaf_of, touches_its_leaf}
-use Rattle.cell_kick.proofs.tasks.ghost_.Goals as goal
+use Rattle.cell_kick.proofs.tasks.set_ghosts.Goals as goal
 
 pub make_ghosts-requires-clause-dense : goal.make_ghosts-requires-clause-dense
 make_ghosts-requires-clause-dense c =
