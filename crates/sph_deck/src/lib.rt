@@ -18,3 +18,6 @@ pub use fault::{DeckFault, Place};
 pub use key::Key;
 pub use read::{LONGEST_TEXT, read_deck};
 pub use refusal::DeckRefusal;
+
+#[cfg(test)]
+mod tests;
