@@ -4,55 +4,55 @@ use Rattle.sph_num.specs.Space.{box_side}
 use Rattle.sph_deck.specs.declared.key.Key.{Key}
 use Rattle.sph_deck.specs.declared.key.Key.TheVariants.{Ticks, Every, BinMin, BinMax, Sound, Shift, Accuracy, Leaf, Pairs, Slack, Particle, Mass, H, X, Y, Z, Px, Py, Pz}
 
--- a row of the table: a key's number, its name, and the least and the greatest integer that it takes; no range where it wants an array of tables
-pub record Row : Type 0 where
+-- an entry of the table: a key's number, its name, and the least and the greatest integer that it takes; no range where it wants an array of tables
+pub record Entry : Type 0 where
   pub number : ℕ
   pub name : List ℕ
   pub range : Option (ℤ × ℤ)
 
-abbrev pub row : ℕ → List ℕ → Option (ℤ × ℤ) → Row
-row number name range = record { number = number; name = name; range = range }
+abbrev pub entry : ℕ → List ℕ → Option (ℤ × ℤ) → Entry
+entry number name range = record { number = number; name = name; range = range }
 
 -- the ranges of whole numbers, of a coordinate and of a component of a momentum
-abbrev pub whole : ℕ → ℕ → Option (ℤ × ℤ)
-whole least most = Some (pos least, pos most)
+abbrev pub from_to : ℕ → ℕ → Option (ℤ × ℤ)
+from_to least most = Some (pos least, pos most)
 
 abbrev pub coordinate : Option (ℤ × ℤ)
-coordinate = whole 0 (box_side - 1)
+coordinate = from_to 0 (box_side - 1)
 
 abbrev pub momentum : Option (ℤ × ℤ)
 momentum = Some (neg_ℤ (pos 9223372036854775807), pos 9223372036854775807)
 
 -- the table: the keys of the top, down to `particle`, and those of a particle
-abbrev pub row_of : Key → Row
-row_of Ticks = row 1 (codes "ticks") (whole 0 65536)
-row_of Every = row 2 (codes "every") (whole 1 65536)
-row_of BinMin = row 3 (codes "bin_min") (whole 0 10)
-row_of BinMax = row 4 (codes "bin_max") (whole 0 10)
-row_of Sound = row 5 (codes "sound") (whole 1 65536)
-row_of Shift = row 6 (codes "shift") (whole 0 60)
-row_of Accuracy = row 7 (codes "accuracy") (whole 0 4294967295)
-row_of Leaf = row 8 (codes "leaf") (whole 1 256)
-row_of Pairs = row 9 (codes "pairs") (whole 1 1073741824)
-row_of Slack = row 10 (codes "slack") (whole 0 65535)
-row_of Particle = row 11 (codes "particle") None
-row_of Mass = row 12 (codes "mass") (whole 1 65536)
-row_of H = row 13 (codes "h") (whole 1024 131072)
-row_of X = row 14 (codes "x") coordinate
-row_of Y = row 15 (codes "y") coordinate
-row_of Z = row 16 (codes "z") coordinate
-row_of Px = row 17 (codes "px") momentum
-row_of Py = row 18 (codes "py") momentum
-row_of Pz = row 19 (codes "pz") momentum
+abbrev pub entry_of : Key → Entry
+entry_of Ticks = entry 1 (codes "ticks") (from_to 0 65536)
+entry_of Every = entry 2 (codes "every") (from_to 1 65536)
+entry_of BinMin = entry 3 (codes "bin_min") (from_to 0 10)
+entry_of BinMax = entry 4 (codes "bin_max") (from_to 0 10)
+entry_of Sound = entry 5 (codes "sound") (from_to 1 65536)
+entry_of Shift = entry 6 (codes "shift") (from_to 0 60)
+entry_of Accuracy = entry 7 (codes "accuracy") (from_to 0 4294967295)
+entry_of Leaf = entry 8 (codes "leaf") (from_to 1 256)
+entry_of Pairs = entry 9 (codes "pairs") (from_to 1 1073741824)
+entry_of Slack = entry 10 (codes "slack") (from_to 0 65535)
+entry_of Particle = entry 11 (codes "particle") None
+entry_of Mass = entry 12 (codes "mass") (from_to 1 65536)
+entry_of H = entry 13 (codes "h") (from_to 1024 131072)
+entry_of X = entry 14 (codes "x") coordinate
+entry_of Y = entry 15 (codes "y") coordinate
+entry_of Z = entry 16 (codes "z") coordinate
+entry_of Px = entry 17 (codes "px") momentum
+entry_of Py = entry 18 (codes "py") momentum
+entry_of Pz = entry 19 (codes "pz") momentum
 
 abbrev pub number_of : Key → ℕ
-number_of key = (row_of key).number
+number_of key = (entry_of key).number
 
 abbrev pub name_of : Key → List ℕ
-name_of key = (row_of key).name
+name_of key = (entry_of key).name
 
 abbrev pub range_of : Key → Option (ℤ × ℤ)
-range_of key = (row_of key).range
+range_of key = (entry_of key).range
 
 -- the keys in the order of their numbers, from 1
 abbrev pub keys : List Key

@@ -91,7 +91,10 @@ impl Key {
     pub(crate) fn named(name: &str) -> Option<Key>
         ensures { result ≡ find (λ key. bytes_eq (name_of key) name.now) keys }
     {
-        TABLE.iter().map(|row| row.0).find(|key| key.name() == name)
+        TABLE
+            .iter()
+            .map(|entry| entry.0)
+            .find(|key| key.name() == name)
     }
 
     /// Whether the key stands at the top.

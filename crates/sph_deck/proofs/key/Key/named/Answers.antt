@@ -16,5 +16,5 @@ pub returns : goal.returns
 returns c =
     same c.find.result
     ∙ find_from_yields_List (λ key. bytes_eq (name_of key) c.args.name.now) _ _ c.find.result c.find.ensures.ran
-    (YieldsList-from_map _ (λ row. row.0) (YieldsList-at c.map.ensures.source (YieldsList-from_slice _ c.iter.ensures.rest)) c.map.ensures.closure (λ x r q k. search rules))
+    (YieldsList-from_map _ (λ entry. entry.0) (YieldsList-at c.map.ensures.source (YieldsList-from_slice _ c.iter.ensures.rest)) c.map.ensures.closure (λ x r q k. search rules))
     (λ x b q k. search (rules, tests))
