@@ -1,12 +1,9 @@
 //! Decks of which all but a few numbers stand in one place: those that are read, the first fault of each kind of
 //! refused one, in ample memory, and worked bounds.
-ghost use Rattle.std.specs.Prelude.{◌≡◌, All, IfOk, vec_len};
-ghost use Rattle.sph_num.specs.Ranges.{IsBody, IsDeckMomentum};
-ghost use Rattle.sph_num.specs.declared.particle.Particle.{Particle};
 
 use crate::DeckFault::*;
 use crate::{Deck, DeckRefusal, Key, LONGEST_TEXT, Place, bound_of, read_deck};
-use sph_num::{MOST_PARTICLES, Params, Particle};
+use sph_num::{Params, Particle};
 use std::alloc::{AllocError, Global};
 use std::test::Fail;
 
@@ -234,27 +231,4 @@ fn bounds_a_pair(rt: HostRuntime) {
         ..HEAVY
     };
     assert_eq!(rt; bound_of(&params, &[first, second]), 328_111_226_887);
-}
-
-/// A list of so many particles, all alike.
-fn copies(alloc: Global, particle: Particle, count: usize) -> Result<Vec<Particle>, AllocError>
-    requires body { IsBody particle }
-    requires momentum { IsDeckMomentum particle }
-    ensures bodies { IfOk result (λ v. All IsBody v.items) }
-    ensures momenta { IfOk result (λ v. All IsDeckMomentum v.items) }
-    ensures len { IfOk result (λ v. vec_len v ≡ count) }
-{
-    vec![in alloc; particle; count]
-}
-
-#[test]
-fn bounds_a_full_deck(rt: HostRuntime) -> Result<(), AllocError> {
-    let light = Particle {
-        mass: 1,
-        h: 131_072,
-        ..HEAVY
-    };
-    let particles = copies(rt.alloc(), light, MOST_PARTICLES)?;
-    assert_eq!(rt; bound_of(&TOP, &particles), 1_675_037_245_440);
-    Ok(())
 }
