@@ -14,6 +14,3 @@ pub mod KeyNumbers
 pub mod Documents
 pub mod TextBound
 pub mod Extremes
-pub mod Numbered
-pub mod Sparse
-pub mod Written

@@ -75,13 +75,13 @@ array_part : (top : Members) (place : Place) (key : Key) (table : Members) (kind
 array_part top place key table kind at is h =
     let own : IsOwn Particle place.row = subst (λ (k : Key). IsOwn k place.row) is at.own in
     let (zeroth, same) = array_at top place.row table own at.row in
-    let number : place.key ≡ 11 = at.number ∙ ap number_of is in
-    let there : place_at Particle 0 ≡ place = ap (λ (row : ℕ). place_in_row row) (sym zeroth) ∙ place_is place 11 number in
+    let number : place.key ≡ number_of Particle = at.number ∙ ap number_of is in
+    let there : place_at Particle 0 ≡ place = ap (λ (row : ℕ). place_in_row row) (sym zeroth) ∙ place_is place (number_of Particle) number in
     let judged_there : judged_array (value_at Particle top) ≡ Err (kind (place_at Particle 0)) = let e = ap (λ (k : Key). value_at k table) is in rw (same, ← e) h in
     inr (inl (rw judged_there (ap kind (sym there))))
   where
     place_in_row : ℕ → Place
-    place_in_row row = record { key = 11; row = row }
+    place_in_row row = record { key = number_of Particle; row = row }
 
 -- a missing value is judged so
 judged_missing : (key : Key) (row : ℕ) (v : Option Data) → v ≡ None → judged key row v ≡ Err (Missing (place_at key row))
@@ -145,7 +145,7 @@ wrong_part top place w =
 -- of an element that is no table
 no_table_part : (top : Members) (place : Place) → IsNoTableAt top place → IsOfPart top (WrongKind place)
 no_table_part top place n =
-    let there : place_at Particle (suc n.index) ≡ place = rw (← n.row) (place_is place 11 n.number) in
+    let there : place_at Particle (suc n.index) ≡ place = rw (← n.row) (place_is place (number_of Particle) n.number) in
     let P : Option Members → Type 0 = λ o. MatchOption o (WrongKind place ≡ WrongKind (place_at Particle (suc n.index))) (λ table. IsRowFault false (suc n.index) table (WrongKind place)) in
     inr (inr (record { index = n.index; element = n.element; found = n.found; wrong = subst P (sym n.no_table) (ap WrongKind (sym there)) }))
 

@@ -1,50 +1,58 @@
--- The table of a deck's keys: name, number and range. A key of number 1 to 11 stands at the top, any other in a particle.
-use Rattle.std.specs.Prelude.{ℕ, ◌-◌, zero, suc, ℤ, pos, neg_ℤ, List, [], ◌∷◌, codes, slice_get, Option, Some, None, Bool, true, false, ◌≡◌}
+-- The table of a deck's keys.
+use Rattle.std.specs.Prelude.{ℕ, ◌-◌, zero, suc, ℤ, pos, neg_ℤ, List, [], ◌∷◌, codes, slice_get, nat_le, Option, Some, None, Bool, true, false, ◌≡◌}
 use Rattle.sph_num.specs.Space.{box_side}
 use Rattle.sph_deck.specs.declared.key.Key.{Key}
 use Rattle.sph_deck.specs.declared.key.Key.TheVariants.{Ticks, Every, BinMin, BinMax, Sound, Shift, Accuracy, Leaf, Pairs, Slack, Particle, Mass, H, X, Y, Z, Px, Py, Pz}
 
-abbrev pub name_of : Key → List ℕ
-name_of Ticks = codes "ticks"
-name_of Every = codes "every"
-name_of BinMin = codes "bin_min"
-name_of BinMax = codes "bin_max"
-name_of Sound = codes "sound"
-name_of Shift = codes "shift"
-name_of Accuracy = codes "accuracy"
-name_of Leaf = codes "leaf"
-name_of Pairs = codes "pairs"
-name_of Slack = codes "slack"
-name_of Particle = codes "particle"
-name_of Mass = codes "mass"
-name_of H = codes "h"
-name_of X = codes "x"
-name_of Y = codes "y"
-name_of Z = codes "z"
-name_of Px = codes "px"
-name_of Py = codes "py"
-name_of Pz = codes "pz"
+-- an entry of the table: a key's number, its name, and the least and the greatest integer that it takes; no range where it wants an array of tables
+pub record Entry : Type 0 where
+  pub number : ℕ
+  pub name : List ℕ
+  pub range : Option (ℤ × ℤ)
+
+abbrev pub entry : ℕ → List ℕ → Option (ℤ × ℤ) → Entry
+entry number name range = record { number = number; name = name; range = range }
+
+-- the ranges of whole numbers, of a coordinate and of a component of a momentum
+abbrev pub from_to : ℕ → ℕ → Option (ℤ × ℤ)
+from_to least most = Some (pos least, pos most)
+
+abbrev pub coordinate : Option (ℤ × ℤ)
+coordinate = from_to 0 (box_side - 1)
+
+abbrev pub momentum : Option (ℤ × ℤ)
+momentum = Some (neg_ℤ (pos 9223372036854775807), pos 9223372036854775807)
+
+-- the table: the keys of the top, down to `particle`, and those of a particle
+abbrev pub entry_of : Key → Entry
+entry_of Ticks = entry 1 (codes "ticks") (from_to 0 65536)
+entry_of Every = entry 2 (codes "every") (from_to 1 65536)
+entry_of BinMin = entry 3 (codes "bin_min") (from_to 0 10)
+entry_of BinMax = entry 4 (codes "bin_max") (from_to 0 10)
+entry_of Sound = entry 5 (codes "sound") (from_to 1 65536)
+entry_of Shift = entry 6 (codes "shift") (from_to 0 60)
+entry_of Accuracy = entry 7 (codes "accuracy") (from_to 0 4294967295)
+entry_of Leaf = entry 8 (codes "leaf") (from_to 1 256)
+entry_of Pairs = entry 9 (codes "pairs") (from_to 1 1073741824)
+entry_of Slack = entry 10 (codes "slack") (from_to 0 65535)
+entry_of Particle = entry 11 (codes "particle") None
+entry_of Mass = entry 12 (codes "mass") (from_to 1 65536)
+entry_of H = entry 13 (codes "h") (from_to 1024 131072)
+entry_of X = entry 14 (codes "x") coordinate
+entry_of Y = entry 15 (codes "y") coordinate
+entry_of Z = entry 16 (codes "z") coordinate
+entry_of Px = entry 17 (codes "px") momentum
+entry_of Py = entry 18 (codes "py") momentum
+entry_of Pz = entry 19 (codes "pz") momentum
 
 abbrev pub number_of : Key → ℕ
-number_of Ticks = 1
-number_of Every = 2
-number_of BinMin = 3
-number_of BinMax = 4
-number_of Sound = 5
-number_of Shift = 6
-number_of Accuracy = 7
-number_of Leaf = 8
-number_of Pairs = 9
-number_of Slack = 10
-number_of Particle = 11
-number_of Mass = 12
-number_of H = 13
-number_of X = 14
-number_of Y = 15
-number_of Z = 16
-number_of Px = 17
-number_of Py = 18
-number_of Pz = 19
+number_of key = (entry_of key).number
+
+abbrev pub name_of : Key → List ℕ
+name_of key = (entry_of key).name
+
+abbrev pub range_of : Key → Option (ℤ × ℤ)
+range_of key = (entry_of key).range
 
 -- the keys in the order of their numbers, from 1
 abbrev pub keys : List Key
@@ -57,39 +65,9 @@ abbrev pub key_numbered : ℕ → Option Key
 key_numbered zero = None
 key_numbered (suc i) = slice_get keys i
 
--- the least and the greatest integer; none at `particle`, which wants an array of tables
-abbrev pub range_of : Key → Option (ℤ × ℤ)
-range_of Ticks = Some (pos 0, pos 65536)
-range_of Every = Some (pos 1, pos 65536)
-range_of BinMin = Some (pos 0, pos 10)
-range_of BinMax = Some (pos 0, pos 10)
-range_of Sound = Some (pos 1, pos 65536)
-range_of Shift = Some (pos 0, pos 60)
-range_of Accuracy = Some (pos 0, pos 4294967295)
-range_of Leaf = Some (pos 1, pos 256)
-range_of Pairs = Some (pos 1, pos 1073741824)
-range_of Slack = Some (pos 0, pos 65535)
-range_of Particle = None
-range_of Mass = Some (pos 1, pos 65536)
-range_of H = Some (pos 1024, pos 131072)
-range_of X = Some (pos 0, pos (box_side - 1))
-range_of Y = Some (pos 0, pos (box_side - 1))
-range_of Z = Some (pos 0, pos (box_side - 1))
-range_of Px = Some (neg_ℤ (pos 9223372036854775807), pos 9223372036854775807)
-range_of Py = Some (neg_ℤ (pos 9223372036854775807), pos 9223372036854775807)
-range_of Pz = Some (neg_ℤ (pos 9223372036854775807), pos 9223372036854775807)
-
 -- the key stands at the top
 abbrev pub is_of_top : Key → Bool
-is_of_top Mass = false
-is_of_top H = false
-is_of_top X = false
-is_of_top Y = false
-is_of_top Z = false
-is_of_top Px = false
-is_of_top Py = false
-is_of_top Pz = false
-is_of_top _ = true
+is_of_top key = nat_le (number_of key) (number_of Particle)
 
 -- the row is the top
 abbrev pub is_top : ℕ → Bool

@@ -8,6 +8,4 @@ pub mod Faults
 pub mod FirstFault
 pub mod Keys
 pub mod Agreement
-pub mod Lattice
-pub mod LatticeText
 pub mod inner

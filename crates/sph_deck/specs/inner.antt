@@ -3,4 +3,3 @@ pub mod Judged
 pub mod Meets
 pub mod Row
 pub mod Rows
-pub mod Sites

@@ -1,5 +1,5 @@
 //! How large the sums of a deck's run may get, from the least and the greatest of its numbers.
-ghost use Rattle.std.specs.Prelude.{◌≡◌, ◌<◌, ◌≤◌, ◌^◌, ℕ, length, slice_index_or, All, IfOk, vec_len};
+ghost use Rattle.std.specs.Prelude.{◌≡◌, ◌<◌, ◌≤◌, ◌^◌, ℕ, length, slice_index_or};
 ghost use Rattle.sph_num.specs.Bound.{bound_of, bounds_of, greatest_momentum, least_density, greatest_ghost, greatest_factor, greatest_force};
 ghost use Rattle.sph_num.specs.Ranges.{AreBoundsInRange, AreParamsInRange, IsBody, IsDeckMomentum, most_particles};
 ghost use Rattle.sph_num.specs.declared.particle.Particle.{Particle};
@@ -90,82 +90,4 @@ fn greatest_force(sound: u32, bounds: Bounds) -> u128
     ensures { result ≡ greatest_force sound bounds }
 {
     2 * u128::from(bounds.count) * greatest_factor(sound, bounds) * u128::from(bounds.h.1)
-}
-
-#[cfg(test)]
-mod tests {
-    use super::*;
-    use sph_num::MOST_PARTICLES;
-    use std::alloc::{AllocError, Global};
-
-    const PARAMS: Params = Params {
-        ticks: 0,
-        every: 1,
-        bin_min: 0,
-        bin_max: 0,
-        sound: 65_536,
-        shift: 0,
-        accuracy: 0,
-        leaf: 1,
-        pairs: 1,
-        slack: 0,
-    };
-
-    const HEAVY: Particle = Particle {
-        mass: 1024,
-        h: 1024,
-        x0: [0; 3],
-        t0: 0,
-        p: [0; 3],
-        q: [0; 3],
-        f: [0; 3],
-        rho: 0,
-        g: 0,
-        bin: 0,
-    };
-
-    #[test]
-    fn bounds_a_pair(rt: HostRuntime) {
-        assert_eq!(rt; bound_of(&PARAMS, &[HEAVY, HEAVY]), 13_190_071_320_576);
-        let params = Params {
-            ticks: 8,
-            bin_max: 2,
-            sound: 3,
-            ..PARAMS
-        };
-        let first = Particle {
-            p: [0, -7, 3],
-            ..HEAVY
-        };
-        let second = Particle {
-            mass: 512,
-            h: 2048,
-            p: [0, 0, 5],
-            ..HEAVY
-        };
-        assert_eq!(rt; bound_of(&params, &[first, second]), 328_111_226_887);
-    }
-
-    /// A list of so many particles, all alike.
-    fn copies(alloc: Global, particle: Particle, count: usize) -> Result<Vec<Particle>, AllocError>
-        requires body { IsBody particle }
-        requires momentum { IsDeckMomentum particle }
-        ensures bodies { IfOk result (λ v. All IsBody v.items) }
-        ensures momenta { IfOk result (λ v. All IsDeckMomentum v.items) }
-        ensures len { IfOk result (λ v. vec_len v ≡ count) }
-    {
-        vec![in alloc; particle; count]
-    }
-
-    #[test]
-    fn bounds_a_full_deck(rt: HostRuntime) -> Result<(), AllocError> {
-        let light = Particle {
-            mass: 1,
-            h: 131_072,
-            ..HEAVY
-        };
-        let particles = copies(rt.alloc(), light, MOST_PARTICLES)?;
-        assert_eq!(rt; bound_of(&PARAMS, &particles), 1_675_037_245_440);
-        Ok(())
-    }
 }

@@ -5,7 +5,8 @@ ghost use Rattle.sph_deck.specs.Keys.{is_of_top, key_numbered, keys, name_of, nu
 
 use sph_num::BOX_SIDE;
 
-/// A key of the top, down to `Particle`, or of one particle. All but `Particle` want an integer.
+/// A key of the top, down to `Particle`, or of one particle, in the order of their numbers. All but `Particle` want
+/// an integer.
 #[derive(Clone, Copy, Debug, PartialEq, Eq)]
 pub enum Key {
     Ticks,
@@ -29,27 +30,34 @@ pub enum Key {
     Pz,
 }
 
-/// Every key, in the order of their numbers from 1.
-const KEYS: [Key; 19] = [
-    Key::Ticks,
-    Key::Every,
-    Key::BinMin,
-    Key::BinMax,
-    Key::Sound,
-    Key::Shift,
-    Key::Accuracy,
-    Key::Leaf,
-    Key::Pairs,
-    Key::Slack,
-    Key::Particle,
-    Key::Mass,
-    Key::H,
-    Key::X,
-    Key::Y,
-    Key::Z,
-    Key::Px,
-    Key::Py,
-    Key::Pz,
+/// The range of a coordinate.
+const COORDINATE: Option<(i64, i64)> = Some((0, BOX_SIDE as i64 - 1));
+
+/// The range of a component of a momentum.
+const MOMENTUM: Option<(i64, i64)> = Some((-i64::MAX, i64::MAX));
+
+/// The table of keys, in the order of their numbers from 1: each with its name, and the least and the
+/// greatest integer that it takes.
+static TABLE: [(Key, &str, Option<(i64, i64)>); 19] = [
+    (Key::Ticks, "ticks", Some((0, 65_536))),
+    (Key::Every, "every", Some((1, 65_536))),
+    (Key::BinMin, "bin_min", Some((0, 10))),
+    (Key::BinMax, "bin_max", Some((0, 10))),
+    (Key::Sound, "sound", Some((1, 65_536))),
+    (Key::Shift, "shift", Some((0, 60))),
+    (Key::Accuracy, "accuracy", Some((0, 4_294_967_295))),
+    (Key::Leaf, "leaf", Some((1, 256))),
+    (Key::Pairs, "pairs", Some((1, 1_073_741_824))),
+    (Key::Slack, "slack", Some((0, 65_535))),
+    (Key::Particle, "particle", None),
+    (Key::Mass, "mass", Some((1, 65_536))),
+    (Key::H, "h", Some((1_024, 131_072))),
+    (Key::X, "x", COORDINATE),
+    (Key::Y, "y", COORDINATE),
+    (Key::Z, "z", COORDINATE),
+    (Key::Px, "px", MOMENTUM),
+    (Key::Py, "py", MOMENTUM),
+    (Key::Pz, "pz", MOMENTUM),
 ];
 
 impl Key {
@@ -57,27 +65,7 @@ impl Key {
     pub fn name(self) -> &'static str
         ensures { result.now ≡ name_of self }
     {
-        match self {
-            Key::Ticks => "ticks",
-            Key::Every => "every",
-            Key::BinMin => "bin_min",
-            Key::BinMax => "bin_max",
-            Key::Sound => "sound",
-            Key::Shift => "shift",
-            Key::Accuracy => "accuracy",
-            Key::Leaf => "leaf",
-            Key::Pairs => "pairs",
-            Key::Slack => "slack",
-            Key::Particle => "particle",
-            Key::Mass => "mass",
-            Key::H => "h",
-            Key::X => "x",
-            Key::Y => "y",
-            Key::Z => "z",
-            Key::Px => "px",
-            Key::Py => "py",
-            Key::Pz => "pz",
-        }
+        TABLE[self as usize].1
     }
 
     /// The key's number in a place, from 1.
@@ -91,15 +79,22 @@ impl Key {
     pub fn numbered(number: u32) -> Option<Key>
         ensures { result ≡ key_numbered number }
     {
-        let index = number.checked_sub(1)?;
-        KEYS.get(index as usize).copied()
+        let index = number.checked_sub(1)? as usize;
+        if index < TABLE.len() {
+            Some(TABLE[index].0)
+        } else {
+            None
+        }
     }
 
     /// The key of a name, if there is one.
     pub(crate) fn named(name: &str) -> Option<Key>
         ensures { result ≡ find (λ key. bytes_eq (name_of key) name.now) keys }
     {
-        KEYS.iter().copied().find(|key| key.name() == name)
+        TABLE
+            .iter()
+            .map(|entry| entry.0)
+            .find(|key| key.name() == name)
     }
 
     /// Whether the key stands at the top.
@@ -113,38 +108,6 @@ impl Key {
     pub fn range(self) -> Option<(i64, i64)>
         ensures { result ≡ range_of self }
     {
-        const COORDINATE: (i64, i64) = (0, BOX_SIDE as i64 - 1);
-        const MOMENTUM: (i64, i64) = (-i64::MAX, i64::MAX);
-        let range = match self {
-            Key::Ticks => (0, 65_536),
-            Key::Every => (1, 65_536),
-            Key::BinMin | Key::BinMax => (0, 10),
-            Key::Sound => (1, 65_536),
-            Key::Shift => (0, 60),
-            Key::Accuracy => (0, 4_294_967_295),
-            Key::Leaf => (1, 256),
-            Key::Pairs => (1, 1_073_741_824),
-            Key::Slack => (0, 65_535),
-            Key::Particle => return None,
-            Key::Mass => (1, 65_536),
-            Key::H => (1_024, 131_072),
-            Key::X | Key::Y | Key::Z => COORDINATE,
-            Key::Px | Key::Py | Key::Pz => MOMENTUM,
-        };
-        Some(range)
-    }
-}
-
-#[cfg(test)]
-mod tests {
-    use super::*;
-
-    #[test]
-    fn numbers_count_from_one(rt: HostRuntime) {
-        assert!(rt; Key::numbered(0).is_none());
-        assert!(rt; Key::numbered(1) == Some(Key::Ticks));
-        assert!(rt; Key::numbered(12) == Some(Key::Mass));
-        assert!(rt; Key::numbered(19) == Some(Key::Pz));
-        assert!(rt; Key::numbered(20).is_none());
+        TABLE[self as usize].2
     }
 }

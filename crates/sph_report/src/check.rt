@@ -19,20 +19,16 @@ pub fn check_text(alloc: Global, deck: &Deck) -> Result<Vec<u8>, AllocError>
 #[cfg(test)]
 mod tests {
     use super::*;
+    use crate::decks::{PAIR, TOP};
     use sph_deck::read_deck;
     use std::test::Fail;
 
-    const PAIR: &str =
-        "ticks = 0\nevery = 1\nbin_min = 0\nbin_max = 0\nsound = 65536\nshift = 20\naccuracy = 0\nleaf = 16\npairs = 4096\nslack = 0\n\
-         [[particle]]\nmass = 1024\nh = 1024\nx = 1000\ny = 0\nz = 0\npx = 0\npy = 0\npz = 0\n\
-         [[particle]]\nmass = 1024\nh = 1024\nx = 1512\ny = 0\nz = 0\npx = 0\npy = 0\npz = 0\n";
-
     #[test]
     fn a_pair_has_its_line(rt: HostRuntime) -> Result<(), Fail> {
-        let deck = read_deck(rt.alloc(), PAIR.as_bytes())
-            .ok()
-            .ok_or("refused")?;
-        let text = check_text(rt.alloc(), &deck)?;
+        let alloc = rt.alloc();
+        let text = format!(in alloc; "{TOP}leaf = 16\npairs = 4096\n{PAIR}")?;
+        let deck = read_deck(alloc, text.as_bytes()).ok().ok_or("refused")?;
+        let text = check_text(alloc, &deck)?;
         assert!(rt; text.as_slice() == b"accepted: particles 2 bound 13190071320576\n".as_slice());
         Ok(())
     }

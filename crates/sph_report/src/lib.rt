@@ -3,6 +3,8 @@
 
 mod check;
 mod deck;
+#[cfg(test)]
+mod decks;
 mod summary;
 mod tree;
 mod words;

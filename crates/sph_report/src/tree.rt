@@ -156,18 +156,12 @@ fn line_of_graph(alloc: Global, graph: &Graph) -> Result<String, AllocError>
 #[cfg(test)]
 mod tests {
     use super::*;
+    use crate::decks::{PAIR, TOP};
     use sph_deck::read_deck;
     use std::test::Fail;
 
-    const TOP: &str =
-        "ticks = 0\nevery = 1\nbin_min = 0\nbin_max = 0\nsound = 65536\nshift = 20\naccuracy = 0\nslack = 0\n";
-
     const LIGHT: &str =
         "[[particle]]\nmass = 1\nh = 131072\nx = 0\ny = 0\nz = 0\npx = 0\npy = 0\npz = 0\n";
-
-    const PAIR: &str =
-        "[[particle]]\nmass = 1024\nh = 1024\nx = 1000\ny = 0\nz = 0\npx = 0\npy = 0\npz = 0\n\
-         [[particle]]\nmass = 1024\nh = 1024\nx = 1512\ny = 0\nz = 0\npx = 0\npy = 0\npz = 0\n";
 
     #[test]
     fn forty_at_one_point_have_their_lines(rt: HostRuntime) -> Result<(), Fail> {

@@ -2,7 +2,7 @@
 use Rattle.std.proofs.Common.{◌≡◌, ◌&&◌, ℕ, Bool, true, false, List, Option, Some, None, Result, Ok, Err, refl, sym, inl, inr, cond, map, string_bytes, String, Global, true≢false, subst}
 use Rattle.std.specs.Prelude.{option_and_then}
 use Rattle.std.proofs.lemmas.Bool.{leb-true}
-use Rattle.sph_deck.specs.Lattice.{IsSide}
+use Rattle.sph_lattice.specs.Lattice.{IsSide}
 use Rattle.sph_top.specs.Words.{HasWordsFault, NamesAJob, NamesAReader, NamesJob, reads_deck}
 use Rattle.sph_top.specs.inner.Steps.{AreWorkers, HasNumbers}
 use Rattle.sph_words.specs.Jobs.{AnswersWords, asked, is_within, job_with, judged, judged_or_usage, told, with_side, with_workers}

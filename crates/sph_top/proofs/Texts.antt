@@ -16,7 +16,7 @@ use Rattle.sph_top.specs.Answers.{Seen, IsAcceptedDeck, IsWithoutOutput, WasRead
 use Rattle.sph_top.specs.Output.{IsOutputOf, Output, summary, text}
 use Rattle.sph_top.specs.Words.{NamesJob, reads_deck}
 use Rattle.sph_top.specs.inner.Steps.{Follows, Writes, WritesOutput, WritesSample, status_of}
-use Rattle.sph_deck.specs.LatticeText.{lattice_text}
+use Rattle.sph_lattice.specs.LatticeText.{lattice_text}
 use Rattle.sph_words.specs.declared.job.Job.{Job}
 use Rattle.sph_words.specs.declared.job.Job.TheVariants.{Run, Plain, Check, Tree, Generate, Sample}
 

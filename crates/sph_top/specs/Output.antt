@@ -2,8 +2,8 @@
 use Rattle.std.specs.Prelude.{◌≡◌, ℕ, ◌⊎◌, List, [], Option}
 use Rattle.std.specs.Io.KnownBytes.{Appends}
 use Rattle.sph_deck.specs.declared.deck.Deck.{Deck}
-use Rattle.sph_deck.specs.Lattice.{lattice_params, lattice_particles}
-use Rattle.sph_deck.specs.LatticeText.{lattice_text}
+use Rattle.sph_lattice.specs.Lattice.{lattice_params, lattice_particles}
+use Rattle.sph_lattice.specs.LatticeText.{lattice_text}
 use Rattle.sph_report.specs.CheckLine.{check_line}
 use Rattle.sph_report.specs.TreeLines.{tree_lines}
 use Rattle.sph_run.specs.Stream.{AppendsLines, AppendsSnapshots, deck_stream, deck_summary}

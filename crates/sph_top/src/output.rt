@@ -1,14 +1,15 @@
 //! Writing an output, and what is answered for it.
 ghost use Rattle.std.specs.Prelude.{◌≡◌, ℕ, List, IfOk};
-ghost use Rattle.sph_deck.specs.Lattice.{IsSide};
+ghost use Rattle.sph_lattice.specs.Lattice.{IsSide};
 ghost use Rattle.sph_top.specs.Answers.{seen};
 ghost use Rattle.sph_top.specs.Output.{stream, text};
 ghost use Rattle.sph_top.specs.inner.Steps.{AreWorkers, WritesOutput, WritesSample, run_output, status_at};
 
 use crate::status::Status;
 use qs_gate::Gate;
-use sph_deck::{Deck, lattice_deck};
+use sph_deck::Deck;
 use sph_edge::{Failed, Sink, write_whole};
+use sph_lattice::lattice_deck;
 use sph_run::{Form, RunEnd, run_plain};
 use std::alloc::{AllocError, Global};
 use std::thread::Threads;

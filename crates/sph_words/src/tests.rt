@@ -1,13 +1,13 @@
-//! Each line of the table of jobs, its near misses, and the order of the faults.
+//! Each line of the table of jobs, its near misses, and the order of the faults, in ample memory: want of memory
+//! would do for the clause of `read_words`, so these tests alone show that it isn't told in place of an answer.
 use crate::{Job, WordsFault, WordsRefusal, read_words};
 use std::alloc::{AllocError, Global};
 use std::test::Fail;
 
-const JOBS: [(&str, Job); 15] = [
+const JOBS: [(&str, Job); 13] = [
     ("run", Job::Run { workers: 1 }),
     ("run --workers 4", Job::Run { workers: 4 }),
     ("run --workers=4", Job::Run { workers: 4 }),
-    ("run --workers=2", Job::Run { workers: 2 }),
     ("run --workers 64", Job::Run { workers: 64 }),
     ("plain", Job::Plain),
     ("check", Job::Check),
@@ -30,14 +30,6 @@ const JOBS: [(&str, Job); 15] = [
         },
     ),
     (
-        "sample 16 6 --workers 4",
-        Job::Sample {
-            side: 16,
-            seed: 6,
-            workers: 4,
-        },
-    ),
-    (
         "sample 16 6 --workers=4",
         Job::Sample {
             side: 16,
@@ -56,23 +48,19 @@ const JOBS: [(&str, Job); 15] = [
 ];
 
 /// Words out of order, and words whose texts fit no line.
-const USAGE: [&str; 40] = [
+const USAGE: [&str; 35] = [
     "",
     "runs",
     "RUN",
     "help",
     "--help",
-    "-h",
     "--version",
     "--",
     "run --help",
-    "run -h",
     "run --",
     "run ",
     "run 4",
-    "run x",
     "--workers 4 run",
-    "--workers=4 run",
     "--workers=2",
     "run --workers",
     "run --workers=",
@@ -81,7 +69,6 @@ const USAGE: [&str; 40] = [
     "run -w 4",
     "run --workers x",
     "run --workers -4",
-    "run --workers=-4",
     "run --workers +4",
     "run --workers 04",
     "run --workers --workers",

@@ -3,7 +3,7 @@ use Rattle.std.specs.Prelude.{◌≡◌, ℕ, ◌≤◌, ◌⊎◌, List, [], �
 use Rattle.std.specs.Io.KnownBytes.{Appends}
 use Rattle.sph_deck.specs.declared.deck.Deck.{Deck}
 use Rattle.sph_deck.specs.FirstFault.{IsFirstFault}
-use Rattle.sph_deck.specs.Lattice.{IsSide}
+use Rattle.sph_lattice.specs.Lattice.{IsSide}
 use Rattle.sph_edge.specs.Bytes.{AppendsPrefix}
 use Rattle.sph_edge.specs.Causes.{Rose}
 use Rattle.sph_report.specs.DeckLines.{NamesKey}

@@ -1,5 +1,5 @@
 use Rattle.std.proofs.Common.{subst}
-use Rattle.sph_deck.specs.LatticeText.{lattice_text}
+use Rattle.sph_lattice.specs.LatticeText.{lattice_text}
 use Rattle.sph_top.specs.Output.{text}
 use Rattle.sph_top.specs.Words.{NamesJob}
 use Rattle.sph_top.proofs.Texts.{Rests-sample, Rests-text, unwritten}

@@ -1,0 +1,3 @@
+pub mod Numbered
+pub mod Sparse
+pub mod Written

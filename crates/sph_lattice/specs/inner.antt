@@ -1,0 +1,2 @@
+-- Definitions between private functions: no public clause cites them.
+pub mod Sites
