@@ -68,7 +68,7 @@ module _ (plan : StagePlan) (is : IsStage plan) where
         ∙ no_leaves shape (task_at plan.graph.tasks task).second (ap (λ (l : TaskLine). l.second) (sym (line_is plan is.lines task within)) ∙ one)
 
     -- a block that is ready for the work is so for the scene
-    ready_block : (leaf : ℕ) (block : BlockRows) → work.IsReady (shape_of plan) task leaf (Agrees plan.scene leaf block) (done_of block) → IsReady plan.scene task leaf block
+    ready_block : (leaf : ℕ) (block : BlockRows) → work.IsApplicable (shape_of plan) task leaf (Agrees plan.scene leaf block) (done_of block) → IsReady plan.scene task leaf block
     ready_block leaf block ready = record {
       agrees = ready.fitting;
       not_done = ready.not_done;
@@ -77,7 +77,7 @@ module _ (plan : StagePlan) (is : IsStage plan) where
           (Touches-from_line plan is.lines earlier leaf (subst (λ n. earlier < n) lines_long (path_within plan.scene earlier precedes.0 task precedes.1)) touched);
     }
 
-    module _ (range : ℕ × ℕ) (leaves : List ℕ) (are : leaves ≡ leaves_between range) (blocks : List BlockRows) (ready : work.AreReady (shape_of plan) task (fits_in plan) done_of leaves blocks) where
+    module _ (range : ℕ × ℕ) (leaves : List ℕ) (are : leaves ≡ leaves_between range) (blocks : List BlockRows) (ready : work.AreApplicable (shape_of plan) task (fits_in plan) done_of leaves blocks) where
       count_is : length leaves ≡ range.1 - range.0
       count_is = ap length are ∙ length-range_with_len range.0 (range.1 - range.0)
 
@@ -94,7 +94,7 @@ module _ (plan : StagePlan) (is : IsStage plan) where
       }
 
       -- and what was added for the scene was added for the work
-      pub added_blocks : (after : List BlockRows) → AreAdded plan.scene task range blocks after → work.AreAdded (shape_of plan) task (fits_in plan) done_of leaves blocks after
+      pub added_blocks : (after : List BlockRows) → AreAdded plan.scene task range blocks after → work.AreApplied (shape_of plan) task (fits_in plan) done_of leaves blocks after
       added_blocks after added = record {
         one_each = added.one_each;
         added = λ k d low.
@@ -104,7 +104,7 @@ module _ (plan : StagePlan) (is : IsStage plan) where
       }
 
     -- where there is no leaf there is nothing to add
-    pub none_added : (leaves : List ℕ) (blocks : List BlockRows) → leaves ≡ [] → work.AreAdded (shape_of plan) task (fits_in plan) done_of leaves blocks blocks
+    pub none_added : (leaves : List ℕ) (blocks : List BlockRows) → leaves ≡ [] → work.AreApplied (shape_of plan) task (fits_in plan) done_of leaves blocks blocks
     none_added leaves blocks none = record { one_each = refl; added = λ k d low. absurd (omega (arith, ap length none)) }
 
 -- what the work tells of a task is what the graph tells
@@ -124,40 +124,40 @@ module _ (plan now : StagePlan) (same : plan ≡ now) (is : IsStage plan) (task 
   pub line_within : task < length plan.scene.tasks
   line_within = subst (λ n. task < n) (sym (lines_long plan is)) (task_within plan now task same low)
 
-  module _ (blocks : List BlockRows) (ready : work.AreReady (shape_of now) task (fits_in now) done_of (first_leaves (shape_of now) task) blocks) where
-    first_of_plan : work.AreReady (shape_of plan) task (fits_in plan) done_of (first_leaves (shape_of plan) task) blocks
-    first_of_plan = subst (λ (p : StagePlan). work.AreReady (shape_of p) task (fits_in p) done_of (first_leaves (shape_of p) task) blocks) (sym same) ready
+  module _ (blocks : List BlockRows) (ready : work.AreApplicable (shape_of now) task (fits_in now) done_of (first_leaves (shape_of now) task) blocks) where
+    first_of_plan : work.AreApplicable (shape_of plan) task (fits_in plan) done_of (first_leaves (shape_of plan) task) blocks
+    first_of_plan = subst (λ (p : StagePlan). work.AreApplicable (shape_of p) task (fits_in p) done_of (first_leaves (shape_of p) task) blocks) (sym same) ready
 
     pub first_ready : AreReady plan.scene task (line_at plan.scene task).first blocks
     first_ready =
         let within = task_within plan now task same low in
         ready_blocks plan is task within (line_at plan.scene task).first (first_leaves (shape_of plan) task) (first_between plan is task within) blocks first_of_plan
 
-    pub first_added : (after : List BlockRows) → AreAdded plan.scene task (line_at plan.scene task).first blocks after → work.AreAdded (shape_of now) task (fits_in now) done_of (first_leaves (shape_of now) task) blocks after
+    pub first_added : (after : List BlockRows) → AreAdded plan.scene task (line_at plan.scene task).first blocks after → work.AreApplied (shape_of now) task (fits_in now) done_of (first_leaves (shape_of now) task) blocks after
     first_added after added =
         let within = task_within plan now task same low in
-        subst (λ (p : StagePlan). work.AreAdded (shape_of p) task (fits_in p) done_of (first_leaves (shape_of p) task) blocks after) same
+        subst (λ (p : StagePlan). work.AreApplied (shape_of p) task (fits_in p) done_of (first_leaves (shape_of p) task) blocks after) same
         (added_blocks plan is task within (line_at plan.scene task).first (first_leaves (shape_of plan) task) (first_between plan is task within) blocks first_of_plan after added)
 
-  module _ (range : ℕ × ℕ) (two : (line_at plan.scene task).second ≡ Some range) (blocks : List BlockRows) (ready : work.AreReady (shape_of now) task (fits_in now) done_of (second_leaves (shape_of now) task) blocks) where
-    second_of_plan : work.AreReady (shape_of plan) task (fits_in plan) done_of (second_leaves (shape_of plan) task) blocks
-    second_of_plan = subst (λ (p : StagePlan). work.AreReady (shape_of p) task (fits_in p) done_of (second_leaves (shape_of p) task) blocks) (sym same) ready
+  module _ (range : ℕ × ℕ) (two : (line_at plan.scene task).second ≡ Some range) (blocks : List BlockRows) (ready : work.AreApplicable (shape_of now) task (fits_in now) done_of (second_leaves (shape_of now) task) blocks) where
+    second_of_plan : work.AreApplicable (shape_of plan) task (fits_in plan) done_of (second_leaves (shape_of plan) task) blocks
+    second_of_plan = subst (λ (p : StagePlan). work.AreApplicable (shape_of p) task (fits_in p) done_of (second_leaves (shape_of p) task) blocks) (sym same) ready
 
     pub second_ready : AreReady plan.scene task range blocks
     second_ready =
         let within = task_within plan now task same low in
         ready_blocks plan is task within range (second_leaves (shape_of plan) task) (second_between plan is task within range two) blocks second_of_plan
 
-    pub second_added : (after : List BlockRows) → AreAdded plan.scene task range blocks after → work.AreAdded (shape_of now) task (fits_in now) done_of (second_leaves (shape_of now) task) blocks after
+    pub second_added : (after : List BlockRows) → AreAdded plan.scene task range blocks after → work.AreApplied (shape_of now) task (fits_in now) done_of (second_leaves (shape_of now) task) blocks after
     second_added after added =
         let within = task_within plan now task same low in
-        subst (λ (p : StagePlan). work.AreAdded (shape_of p) task (fits_in p) done_of (second_leaves (shape_of p) task) blocks after) same
+        subst (λ (p : StagePlan). work.AreApplied (shape_of p) task (fits_in p) done_of (second_leaves (shape_of p) task) blocks after) same
         (added_blocks plan is task within range (second_leaves (shape_of plan) task) (second_between plan is task within range two) blocks second_of_plan after added)
 
-  pub second_left : (blocks : List BlockRows) → (line_at plan.scene task).second ≡ None → work.AreAdded (shape_of now) task (fits_in now) done_of (second_leaves (shape_of now) task) blocks blocks
+  pub second_left : (blocks : List BlockRows) → (line_at plan.scene task).second ≡ None → work.AreApplied (shape_of now) task (fits_in now) done_of (second_leaves (shape_of now) task) blocks blocks
   second_left blocks one =
       let within = task_within plan now task same low in
-      subst (λ (p : StagePlan). work.AreAdded (shape_of p) task (fits_in p) done_of (second_leaves (shape_of p) task) blocks blocks) same
+      subst (λ (p : StagePlan). work.AreApplied (shape_of p) task (fits_in p) done_of (second_leaves (shape_of p) task) blocks blocks) same
       (none_added plan is task within (second_leaves (shape_of plan) task) blocks (second_none plan is task within one))
 
 -- a kind that is neither of a density nor of a force is one of tasks on one leaf each
