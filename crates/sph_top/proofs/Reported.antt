@@ -6,10 +6,10 @@ use Rattle.std.specs.Io.KnownBytes.{Appends}
 use Rattle.sph_edge.specs.Causes.{Stayed}
 use Rattle.sph_top.specs.declared.status.Status.{Status}
 use Rattle.sph_top.specs.declared.status.Status.TheVariants.{Done, WriteFault, NoMemory}
-use Rattle.sph_top.specs.Answers.{Seen, AppendsSome, IsWithoutOutput, Rests, TellsWriteFault, Yields}
+use Rattle.sph_top.specs.Answers.{Seen, AppendsSome, IsWithoutFault, IsWithoutOutput, Rests, TellsWriteFault, Yields}
 use Rattle.sph_top.specs.Lines.{error_line}
 use Rattle.sph_top.specs.inner.Steps.{HasMadeLine, IsTold, Reports}
-use Rattle.sph_top.proofs.Rest.{AppendsSome-rests, NoMemory-made, stayed_not_rose}
+use Rattle.sph_top.proofs.Rest.{AppendsSome-rests, NoMemory-made, made_without_fault, stayed_not_rose}
 
 -- the answer whose line was written: the one before it, or NoMemory where that line takes memory
 record WasSaid (status said result : Status) (err err' : Seen) : Type 0 where
@@ -33,6 +33,15 @@ module _ (status result : Status) (err err' : Seen) (reports : Reports status re
         | inl t ↦ elim said [ inl e ↦ inl (t.0 ∙ e) | inr e ↦ inr (inl (t.0 ∙ e)) ]
         | inr t ↦ inr (inr (t.1, t.2))
       ]
+
+  -- where no fault is told, none was before the line was written, and no call of `err` failed
+  pub without_fault : IsWithoutFault result → IsWithoutFault status × (err'.faults ≡ err.faults)
+  without_fault none = elim reports [
+    | inl (inl t) ↦ (subst IsWithoutFault t.0 none, t.2)
+    | inl (inr t) ↦ absurd (subst IsWithoutFault t.1 none)
+    | inr (made, inl t) ↦ (made_without_fault status made, t.2)
+    | inr (made, inr t) ↦ absurd (subst IsWithoutFault t.1 none)
+  ]
 
   -- where `err` didn't fail, a run to the end stays one
   pub whole_run : Stayed err.faults err'.faults → (status ≡ Done) ⊎ (status ≡ NoMemory) → (result ≡ Done) ⊎ (result ≡ NoMemory)

@@ -15,7 +15,7 @@ use Rattle.sph_edge.specs.Whole.{GaveTooMuch}
 use Rattle.sph_top.specs.declared.status.Status.{Status}
 use Rattle.sph_deck.specs.declared.fault.DeckFault.TheVariants.{TooLong}
 use Rattle.sph_top.specs.declared.status.Status.TheVariants.{Done, Usage, DeckRefused, ReadFault, WriteFault, NoMemory}
-use Rattle.sph_top.specs.Answers.{Seen, IsAcceptedDeck, WasRead, ReadsDeck, HasAcceptedDeck, HasOutput, IsDeckFaulty, IsDeckTooLong, AppendsSome, AppendsToAnEnd, IsWithoutOutput, Rests}
+use Rattle.sph_top.specs.Answers.{Seen, IsAcceptedDeck, WasRead, ReadsDeck, HasAcceptedDeck, HasOutput, IsDeckFaulty, IsDeckTooLong, AppendsSome, AppendsToAnEnd, IsWithoutFault, IsWithoutOutput, Rests}
 use Rattle.sph_top.specs.Output.{Output}
 use Rattle.sph_top.specs.inner.Steps.{HasMadeLine, NamesItsKey}
 use Rattle.sph_top.specs.Words.{HasWordsFault, NamesAJob, NamesAReader, reads_deck}
@@ -67,7 +67,7 @@ AppendsSome-rests (Usage fault) words source source' out out' undone same rests 
 AppendsSome-rests (DeckRefused fault) words source source' out out' undone same rests = inl (Appends-same out out' (same tt))
 AppendsSome-rests ReadFault words source source' out out' undone same rests = inl (Appends-same out out' (same tt))
 AppendsSome-rests WriteFault words source source' out out' undone same rests = inr (rests.0, rests.1, rests.3)
-AppendsSome-rests NoMemory words source source' out out' undone same rests = AppendsSome-to_an_end words source source' out out' rests
+AppendsSome-rests NoMemory words source source' out out' undone same rests = AppendsSome-to_an_end words source source' out out' rests.0
 
 -- the answers whose line takes memory leave the output as it was
 made_without : (status : Status) → HasMadeLine status → IsWithoutOutput status
@@ -78,10 +78,31 @@ made_without ReadFault made = absurd made
 made_without WriteFault made = absurd made
 made_without NoMemory made = absurd made
 
+-- and they tell no fault of a device
+pub made_without_fault : (status : Status) → HasMadeLine status → IsWithoutFault status
+made_without_fault (Usage fault) made = tt
+made_without_fault (DeckRefused fault) made = tt
+made_without_fault Done made = absurd made
+made_without_fault ReadFault made = absurd made
+made_without_fault WriteFault made = absurd made
+made_without_fault NoMemory made = absurd made
+
+-- where no fault of a device is told, no call of `out` failed
+pub out_kept : (status : Status) (words : List (String Global)) (source source' out out' : Seen) → IsWithoutFault status
+    → (IsWithoutOutput status → out' ≡ out) → Rests status words source source' out out' → out'.faults ≡ out.faults
+out_kept Done words source source' out out' none same rests = rests.none_failed
+out_kept (Usage fault) words source source' out out' none same rests = ap (λ (o : Seen). o.faults) (same tt)
+out_kept (DeckRefused fault) words source source' out out' none same rests = ap (λ (o : Seen). o.faults) (same tt)
+out_kept ReadFault words source source' out out' none same rests = absurd none
+out_kept WriteFault words source source' out out' none same rests = absurd none
+out_kept NoMemory words source source' out out' none same rests = rests.1
+
 -- where there was no memory for such a line, nothing was appended
 pub NoMemory-made : (status : Status) (words : List (String Global)) (source source' out out' : Seen) → HasMadeLine status
     → (IsWithoutOutput status → out' ≡ out) → Rests NoMemory words source source' out out'
-NoMemory-made status words source source' out out' made same = inl (Appends-same out out' (same (made_without status made)))
+NoMemory-made status words source source' out out' made same =
+    let is = same (made_without status made) in
+    (inl (Appends-same out out' is), ap (λ (o : Seen). o.faults) is)
 
 -- a refused deck's fault names its key
 NamesKey-refused : (fault : DeckFault) (source source' : Seen) → ((fault ≡ TooLong) × IsDeckTooLong source source') ⊎ IsDeckFaulty fault source source' → NamesKey fault

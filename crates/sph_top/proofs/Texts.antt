@@ -63,7 +63,7 @@ pub Rests-writes : (job : Job) (words : List (String Global)) (source source' : 
     → Writes job (ReadsDeck source source') status out out' → Rests status words source source' out out'
 Rests-writes job words source source' Done out out' names (inl none) = let is = none.0 in cc
 Rests-writes job words source source' Done out out' names (inr wrote) =
-    record { output = wrote.0; has = record { job = job; named = names; is = wrote.1 }; appended = wrote.2 }
+    record { output = wrote.0; has = record { job = job; named = names; is = wrote.1 }; appended = wrote.2.0; none_failed = wrote.2.1 }
 Rests-writes job words source source' (Usage fault) out out' names (inl none) = let is = none.0 in cc
 Rests-writes job words source source' (Usage fault) out out' names (inr wrote) = absurd wrote.2
 Rests-writes job words source source' (DeckRefused fault) out out' names (inl none) = let is = none.0 in cc
@@ -73,9 +73,9 @@ Rests-writes job words source source' ReadFault out out' names (inr wrote) = abs
 Rests-writes job words source source' WriteFault out out' names (inl none) = let is = none.0 in cc
 Rests-writes job words source source' WriteFault out out' names (inr wrote) =
     (wrote.0, record { job = job; named = names; is = wrote.1 }, wrote.2.0, wrote.2.1)
-Rests-writes job words source source' NoMemory out out' names (inl none) = inl none.1
+Rests-writes job words source source' NoMemory out out' names (inl none) = (inl none.1.0, none.1.1)
 Rests-writes job words source source' NoMemory out out' names (inr wrote) =
-    inr (wrote.0, record { job = job; named = names; is = wrote.1 }, wrote.2)
+    (inr (wrote.0, record { job = job; named = names; is = wrote.1 }, wrote.2.0), wrote.2.1)
 
 -- the text of a generated deck, and its summary
 pub Rests-text : (side seed : ℕ) (words : List (String Global)) (source source' : Seen) (status : Status) (out out' : Seen) → NamesJob words (Generate side seed)
@@ -125,7 +125,7 @@ pub Rests-refused : (words : List (String Global)) (source source' : Seen) (held
     → AnswersWords (map string_bytes words) result → result ≡ Err refusal
     → Rests (status_of refusal) words source source' (record { bytes = held; faults = faults }) (record { bytes = held; faults = faults })
 Rests-refused words source source' held faults result (Fault fault) answers is = faulty words result fault answers is
-Rests-refused words source source' held faults result Memory answers is = inl (Appends-nil held)
+Rests-refused words source source' held faults result Memory answers is = (inl (Appends-nil held), refl)
 
 -- an answer that leaves the output as it was comes with no output
 pub unwritten : (output : Output) (status : Status) (out out' : Seen) → WritesOutput output status out out' → IsWithoutOutput status → ⊥

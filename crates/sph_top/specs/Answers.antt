@@ -47,11 +47,12 @@ pub record HasOutput (words : List (String Global)) (source source' : Seen) (out
   pub named : NamesJob words job
   pub is : IsOutputOf job (ReadsDeck source source') output
 
--- Done: the whole input was read where the job reads one, and the whole output was appended
+-- Done: the whole input was read where the job reads one, and the whole output was appended by calls none of which failed
 pub record IsDone (words : List (String Global)) (source source' out out' : Seen) : Type 0 where
   pub output : Output
   pub has : HasOutput words source source' output
   pub appended : Appends out.bytes out'.bytes (bytes_of output)
+  pub none_failed : out'.faults ≡ out.faults
 
 -- the deck is longer than a deck may be: no more was read than shows it
 pub record IsDeckTooLong (source source' : Seen) : Type 0 where
@@ -97,7 +98,7 @@ Rests (DeckRefused fault) words source source' out out' = IsDeckRefused fault wo
 Rests ReadFault words source source' out out' = NamesAReader words × Rose source.faults source'.faults
 Rests WriteFault words source source' out out' =
     (output : Output) × HasOutput words source source' output × Rose out.faults out'.faults × AppendsPrefix out.bytes out'.bytes (bytes_of output)
-Rests NoMemory words source source' out out' = AppendsToAnEnd words source source' out out'
+Rests NoMemory words source source' out out' = AppendsToAnEnd words source source' out out' × (out'.faults ≡ out.faults)
 
 -- the answers that leave the output as it was
 abbrev pub IsWithoutOutput : Status → Type 0
@@ -105,6 +106,12 @@ IsWithoutOutput (Usage fault) = ⊤
 IsWithoutOutput (DeckRefused fault) = ⊤
 IsWithoutOutput ReadFault = ⊤
 IsWithoutOutput _ = ⊥
+
+-- the answers that tell no fault of a device
+abbrev pub IsWithoutFault : Status → Type 0
+IsWithoutFault ReadFault = ⊥
+IsWithoutFault WriteFault = ⊥
+IsWithoutFault _ = ⊤
 
 -- A write fault comes only where the count of a sink rose. Its whole line stands on `err`, unless `err` itself failed: then there
 -- are some first bytes of that line, or of the line of the refusal that it replaced, which rests on something of its own.

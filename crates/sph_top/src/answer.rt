@@ -4,7 +4,7 @@ ghost use Rattle.std.specs.Io.KnownBytes.{Appends};
 ghost use Rattle.sph_deck.specs.FirstFault.{IsFirstFault};
 ghost use Rattle.sph_deck.specs.declared.fault.DeckFault.{DeckFault};
 ghost use Rattle.sph_edge.specs.Causes.{Rose, Stayed};
-ghost use Rattle.sph_top.specs.Answers.{seen, HasAcceptedDeck, IsDone, IsDeckRefused, AppendsSome, AppendsToAnEnd, IsWithoutOutput, Rests, TellsWriteFault, Yields};
+ghost use Rattle.sph_top.specs.Answers.{seen, HasAcceptedDeck, IsDone, IsDeckRefused, AppendsSome, AppendsToAnEnd, IsWithoutFault, IsWithoutOutput, Rests, TellsWriteFault, Yields};
 ghost use Rattle.sph_top.specs.Lines.{error_line};
 ghost use Rattle.sph_top.specs.inner.Steps.{status_of};
 ghost use Rattle.sph_top.specs.Words.{HasWordsFault, NamesAJob, NamesAReader};
@@ -51,10 +51,12 @@ pub fn swiftq<R: Threads + Sync, S: Source, O: Sink, E: Sink, G: Gate>(
         → Stayed (S.faults source.old) (S.faults source.new) → (fault : DeckFault) → IsFirstFault bytes fault
         → Yields (Status.DeckRefused fault) result (seen E.held E.faults err.old) (seen E.held E.faults err.new) }
 
-    // A fault comes only where a count of faults rose.
+    // A fault comes only where a count of faults rose, and where none is told no count rose.
     ensures read_fault { result ≡ Status.ReadFault → Rose (S.faults source.old) (S.faults source.new) }
     ensures write_fault { result ≡ Status.WriteFault
         → Rose (O.faults out.old) (O.faults out.new) ⊎ Rose (E.faults err.old) (E.faults err.new) }
+    ensures none_failed { IsWithoutFault result → (S.faults source.new ≡ S.faults source.old)
+        × (O.faults out.new ≡ O.faults out.old) × (E.faults err.new ≡ E.faults err.old) }
 
     // What stands after an answer that isn't Done.
     ensures write_fault_output { result ≡ Status.WriteFault → AppendsSome words.now
@@ -89,6 +91,7 @@ fn answer<R: Threads + Sync, S: Source, O: Sink, G: Gate>(
     ensures rests { Rests result words.now (seen S.left S.faults source.old) (seen S.left S.faults source.new)
         (seen O.held O.faults out.old) (seen O.held O.faults out.new) }
     ensures unread { (NamesAReader words.now → ⊥) → source.new ≡ source.old }
+    ensures kept { IsWithoutFault result → S.faults source.new ≡ S.faults source.old }
     ensures untouched { IsWithoutOutput result → out.new ≡ out.old }
 {
     match read_words(alloc, words) {

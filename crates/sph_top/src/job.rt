@@ -2,7 +2,7 @@
 ghost use Rattle.std.specs.Prelude.{◌≡◌, true, false, List};
 ghost use Rattle.std.specs.declared.alloc.Global.{Global};
 ghost use Rattle.std.specs.Prelude.{String};
-ghost use Rattle.sph_top.specs.Answers.{seen, IsWithoutOutput, Rests};
+ghost use Rattle.sph_top.specs.Answers.{seen, IsWithoutFault, IsWithoutOutput, Rests};
 ghost use Rattle.sph_top.specs.Words.{NamesJob, reads_deck};
 ghost use Rattle.sph_top.specs.inner.Steps.{Follows, HasNumbers, Writes};
 
@@ -30,6 +30,7 @@ pub fn do_job<R: Threads + Sync, S: Source, O: Sink, G: Gate>(
     ensures rests { (words : List (String Global)) → NamesJob words job → Rests result words (seen S.left S.faults source.old) (seen S.left S.faults source.new)
         (seen O.held O.faults out.old) (seen O.held O.faults out.new) }
     ensures unread { reads_deck job ≡ false → source.new ≡ source.old }
+    ensures kept { IsWithoutFault result → S.faults source.new ≡ S.faults source.old }
     ensures untouched { IsWithoutOutput result → out.new ≡ out.old }
 {
     match job {
@@ -56,6 +57,7 @@ fn do_on_source<R: Threads + Sync, S: Source, O: Sink, G: Gate>(
     requires numbers { HasNumbers job }
     ensures rests { (words : List (String Global)) → NamesJob words job → Rests result words (seen S.left S.faults source.old) (seen S.left S.faults source.new)
         (seen O.held O.faults out.old) (seen O.held O.faults out.new) }
+    ensures kept { IsWithoutFault result → S.faults source.new ≡ S.faults source.old }
     ensures untouched { IsWithoutOutput result → out.new ≡ out.old }
 {
     match read_whole(alloc, source, LONGEST_TEXT) {
@@ -67,7 +69,7 @@ fn do_on_source<R: Threads + Sync, S: Source, O: Sink, G: Gate>(
 }
 
 /// Reads a deck, and does the job on it where it is accepted.
-fn do_on_text<R: Threads + Sync, O: Sink, G: Gate>(
+pub fn do_on_text<R: Threads + Sync, O: Sink, G: Gate>(
     rt: &R,
     alloc: Global,
     job: Job,

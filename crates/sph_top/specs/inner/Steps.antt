@@ -38,11 +38,12 @@ HasNumbers (Generate side seed) = IsSide side
 HasNumbers (Sample side seed workers) = IsSide side × AreWorkers workers
 HasNumbers _ = ⊤
 
--- what the answer says of an output: written whole at Done, some first bytes at a write fault, some whole pieces where memory ran out
+-- what the answer says of an output: written whole at Done, some first bytes at a write fault, some whole pieces where memory ran
+-- out; and a call failed just at a write fault
 abbrev pub WritesOutput : Output → Status → Seen → Seen → Type 0
-WritesOutput output Done out out' = Appends out.bytes out'.bytes (bytes_of output)
+WritesOutput output Done out out' = Appends out.bytes out'.bytes (bytes_of output) × (out'.faults ≡ out.faults)
 WritesOutput output WriteFault out out' = Rose out.faults out'.faults × AppendsPrefix out.bytes out'.bytes (bytes_of output)
-WritesOutput output NoMemory out out' = AppendsPieces output out.bytes out'.bytes
+WritesOutput output NoMemory out out' = AppendsPieces output out.bytes out'.bytes × (out'.faults ≡ out.faults)
 WritesOutput output _ out out' = ⊥
 
 -- the answer at the end of a run
@@ -56,16 +57,20 @@ abbrev pub run_output : Form → Deck → Output
 run_output Snapshots deck = stream deck
 run_output Summary deck = summary deck
 
+-- nothing was appended, and no call failed
+abbrev pub WritesNothing : Seen → Seen → Type 0
+WritesNothing out out' = Appends out.bytes out'.bytes [] × (out'.faults ≡ out.faults)
+
 -- the same of the summary of a generated deck; where memory ran out, nothing may have been written
 abbrev pub WritesSample : ℕ → ℕ → Status → Seen → Seen → Type 0
 WritesSample side seed status out out' =
-    ((status ≡ NoMemory) × Appends out.bytes out'.bytes [])
+    ((status ≡ NoMemory) × WritesNothing out out')
     ⊎ ((deck : Deck) × IsLattice side seed deck × WritesOutput (summary deck) status out out')
 
 -- the same of the job's output; where memory ran out, nothing may have been written
 abbrev pub Writes : Job → (Deck → Type 0) → Status → Seen → Seen → Type 0
 Writes job reads status out out' =
-    ((status ≡ NoMemory) × Appends out.bytes out'.bytes [])
+    ((status ≡ NoMemory) × WritesNothing out out')
     ⊎ ((output : Output) × IsOutputOf job reads output × WritesOutput output status out out')
 
 -- what the answer says of a text that was read whole, and what came of the job
@@ -81,7 +86,7 @@ NamesItsKey _ = ⊤
 -- the answer's line stands on `err`; or `err` failed, so that some first bytes of it stand there, and the answer is a write fault
 abbrev pub IsTold : Status → Status → Seen → Seen → Type 0
 IsTold status result err err' =
-    ((result ≡ status) × Appends err.bytes err'.bytes (error_line status))
+    ((result ≡ status) × Appends err.bytes err'.bytes (error_line status) × (err'.faults ≡ err.faults))
     ⊎ ((status ≡ Done → ⊥) × (result ≡ WriteFault) × Rose err.faults err'.faults × AppendsPrefix err.bytes err'.bytes (error_line status))
 
 -- the answers whose line takes memory

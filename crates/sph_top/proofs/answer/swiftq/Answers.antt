@@ -1,8 +1,8 @@
 use Rattle.std.proofs.Common.{ap}
 use Rattle.sph_top.specs.declared.status.Status.TheVariants.{DeckRefused, Done, NoMemory, Usage}
 use Rattle.sph_top.specs.Answers.{seen}
-use Rattle.sph_top.proofs.Reported.{answered, yields, output_of_write_fault, line_of_write_fault, whole_run}
-use Rattle.sph_top.proofs.Rest.{NamesItsKey-rests, refused, job_done, usage}
+use Rattle.sph_top.proofs.Reported.{answered, yields, output_of_write_fault, line_of_write_fault, whole_run, without_fault}
+use Rattle.sph_top.proofs.Rest.{NamesItsKey-rests, out_kept, refused, job_done, usage}
 use Rattle.sph_top.proofs.answer.swiftq.Goals as goal
 
 pub report-requires : goal.report-requires
@@ -25,8 +25,17 @@ returns-clause-deck_refused g c = λ fault e.
 
 pub returns-clause-no_memory : goal.returns-clause-no_memory
 returns-clause-no_memory g c = λ e.
-    answered c.answer-status.result c.report.result _ _ c.report.ensures.told c.args.words.now _ _ _ _ c.answer-status.ensures.rests
-    (λ w. ap (seen g.O.Sink.held g.O.Sink.faults) (c.answer-status.ensures.untouched w)) NoMemory (λ same. cc) e
+    (answered c.answer-status.result c.report.result _ _ c.report.ensures.told c.args.words.now _ _ _ _ c.answer-status.ensures.rests
+    (λ w. ap (seen g.O.Sink.held g.O.Sink.faults) (c.answer-status.ensures.untouched w)) NoMemory (λ same. cc) e).0
+
+pub returns-clause-none_failed : goal.returns-clause-none_failed
+returns-clause-none_failed g c = λ none.
+    let before = without_fault c.answer-status.result c.report.result _ _ c.report.ensures.told none in (
+      c.answer-status.ensures.kept before.0,
+      out_kept c.answer-status.result c.args.words.now _ _ _ _ before.0
+          (λ w. ap (seen g.O.Sink.held g.O.Sink.faults) (c.answer-status.ensures.untouched w)) c.answer-status.ensures.rests,
+      before.1,
+    )
 
 pub returns-clause-usage_where : goal.returns-clause-usage_where
 returns-clause-usage_where g c fault has =
