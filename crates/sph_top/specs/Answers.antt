@@ -22,6 +22,7 @@ pub record Seen : Type 0 where
   pub bytes : Option (List ℕ)
   pub faults : ℕ
 
+-- a device as it stands, by what tells its bytes and its count of faults
 abbrev pub seen : {D : Type 0} → (D → Option (List ℕ)) → (D → ℕ) → D → Seen
 seen bytes faults device = record { bytes = bytes device; faults = faults device }
 
