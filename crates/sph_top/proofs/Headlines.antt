@@ -1,18 +1,16 @@
 -- What a run of a deck's text answers, from what came of the job `run` on it.
-use Rattle.std.proofs.Common.{◌≡◌, ℕ, List, [], ◌++◌, Result, Ok, Err, refl, sym, ◌∙◌, ap, subst, inl, inr, Vec, Global}
+use Rattle.std.proofs.Common.{◌≡◌, ℕ, List, [], Result, Ok, Err, refl, sym, ◌∙◌, ap, subst, inl, inr, Vec, Global}
 use Rattle.std.specs.Prelude.{Option, Some}
 use Rattle.std.specs.Io.KnownBytes.{Appends}
 use Rattle.sph_num.specs.declared.particle.Params.{Params}
 use Rattle.sph_deck.specs.declared.deck.Deck.{Deck}
-use Rattle.sph_deck.specs.declared.fault.DeckFault.{DeckFault}
 use Rattle.sph_deck.specs.Document.{params_of, particles_of}
 use Rattle.sph_deck.specs.Faults.{IsDeckOf}
-use Rattle.sph_deck.specs.FirstFault.{IsFirstFault}
 use Rattle.sph_deck.proofs.FirstFaults.{IsDocument-unique, IsFirstFault-unique}
 use Rattle.sph_run.specs.Stream.{deck_stream}
 use Rattle.sph_run.specs.declared.form.Form.TheVariants.{Snapshots}
 use Rattle.sph_run.proofs.Work.{outputs_ignore_work}
-use Rattle.sph_top.specs.Answers.{IsAcceptedDeck, Seen}
+use Rattle.sph_top.specs.Answers.{IsAcceptedDeck, Change}
 use Rattle.sph_top.specs.Headline.{AnswersText, Headline}
 use Rattle.sph_top.specs.Output.{bytes_of}
 use Rattle.sph_top.specs.declared.bytes.RunRefusal.{RunRefusal}
@@ -55,9 +53,9 @@ held_is before after held bytes empty holds appended =
     subst (λ o. Appends o (Some held) bytes) empty (subst (λ o. Appends before o bytes) holds appended)
 
 -- a run to its end into an empty sink
-pub stream_held : (workers : ℕ) (text held : List ℕ) (out out' : Seen) → out.bytes ≡ Some [] → out'.bytes ≡ Some held
-    → Follows (Run workers) text status.Done out out' → (deck : Deck) × IsAcceptedDeck text deck × (held ≡ deck_stream deck)
-stream_held workers text held out out' empty holds (inl none) = let is = none.0 in cc
-stream_held workers text held out out' empty holds (inr wrote) =
+pub stream_held : (workers : ℕ) (text held : List ℕ) (out : Change) → out.before.bytes ≡ Some [] → out.after.bytes ≡ Some held
+    → Follows (Run workers) text status.Done out → (deck : Deck) × IsAcceptedDeck text deck × (held ≡ deck_stream deck)
+stream_held workers text held out empty holds (inl none) = let is = none.0 in cc
+stream_held workers text held out empty holds (inr wrote) =
     let of = wrote.1 in
-    (of.0, of.1, held_is out.bytes out'.bytes held (bytes_of wrote.0) empty holds wrote.2.0 ∙ ap bytes_of of.2)
+    (of.0, of.1, held_is out.before.bytes out.after.bytes held (bytes_of wrote.0) empty holds wrote.2.0 ∙ ap bytes_of of.2)
