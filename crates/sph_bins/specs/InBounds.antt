@@ -38,6 +38,7 @@ pub record IsInStep (params : Params) (bounds : Bounds) (t : ℕ) (particle : Pa
   pub until : t ≤ particle.t0 + 2 ^ particle.bin
   pub room : HasRoom params bounds (2 * (params.ticks - particle.t0) + 2 ^ params.bin_max - 2 ^ particle.bin) particle
 
+-- a particle before the step at a tick
 abbrev pub IsAt : Params → Bounds → ℕ → Particle → Type 0
 IsAt params bounds zero particle = IsAtStart params bounds particle
 IsAt params bounds (suc t) particle = IsInStep params bounds (suc t) particle

@@ -14,6 +14,7 @@ pub record IsDocument (bytes : List ℕ) (top : Members) : Type 0 where
   pub utf8 : IsUtf8 bytes
   pub parsed : parse_document bytes ≡ Some top
 
+-- the values of an array, as a list
 abbrev pub list_of_items : Items → List Data
 list_of_items no_items = []
 list_of_items (item d ds) = d ∷ list_of_items ds
@@ -36,10 +37,11 @@ abbrev pub table_at : Members → ℕ → Option Members
 table_at top zero = Some top
 table_at top (suc i) = option_and_then as_table (slice_get (elements top) i)
 
--- the integer at a key, 0 where there is none, and its absolute value
+-- the integer at a key, 0 where there is none
 abbrev pub integer_at : Key → Members → ℤ
 integer_at key table = unwrap_or (option_and_then as_integer (value_at key table)) (pos 0)
 
+-- its absolute value
 abbrev pub whole_at : Key → Members → ℕ
 whole_at key table = unsigned_abs (integer_at key table)
 

@@ -1,4 +1,5 @@
 pub mod Bytes
 pub mod Causes
+pub mod Growing
 pub mod Memory
 pub mod Whole

@@ -3,11 +3,13 @@
 #![tactic(auto)]
 
 mod adapters;
+mod growing;
 mod memory;
 mod traits;
 mod whole;
 
 pub use adapters::{StdSink, StdSource};
+pub use growing::GrowingSink;
 pub use memory::{MemorySink, MemorySource};
 pub use traits::{Failed, Sink, Source};
 pub use whole::{ReadEnd, read_whole, write_whole};

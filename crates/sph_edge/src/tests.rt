@@ -2,8 +2,8 @@
 ghost use Rattle.std.specs.Prelude.{None};
 
 use crate::{
-    Failed, MemorySink, MemorySource, ReadEnd, Sink, Source, StdSink, StdSource, read_whole,
-    write_whole,
+    Failed, GrowingSink, MemorySink, MemorySource, ReadEnd, Sink, Source, StdSink, StdSource,
+    read_whole, write_whole,
 };
 use std::alloc::{AllocError, Global};
 use std::test::Fail;
@@ -20,15 +20,8 @@ fn reads_within_the_limit(rt: HostRuntime) -> Result<(), Fail> {
     let mut source = MemorySource::new(bytes.clone()?, 16, Vec::new(alloc));
     assert_eq!(rt; read_whole(alloc, &mut source, 40), Ok(bytes.clone()?));
 
-    // One byte over the limit is taken, and no more.
-    for (limit, left) in [(39, 0), (37, 2)] {
-        let mut source = MemorySource::new(bytes.clone()?, 16, Vec::new(alloc));
-        assert_eq!(rt;
-            read_whole(alloc, &mut source, limit),
-            Err(ReadEnd::TooLong)
-        );
-        assert_eq!(rt; source.take(&mut [0; 16]), Ok(left), "at {limit}");
-    }
+    let mut source = MemorySource::new(bytes.clone()?, 16, Vec::new(alloc));
+    assert_eq!(rt; read_whole(alloc, &mut source, 39), Err(ReadEnd::TooLong));
 
     let mut source = MemorySource::new(bytes, 16, vec![in alloc; 2]?);
     assert_eq!(rt; read_whole(alloc, &mut source, 40), Err(ReadEnd::Fault));
@@ -39,14 +32,20 @@ fn reads_within_the_limit(rt: HostRuntime) -> Result<(), Fail> {
 fn writes_until_a_failure(rt: HostRuntime) -> Result<(), Fail> {
     let alloc = rt.alloc();
     let piece = counted(alloc, 108)?;
-    let mut sink = MemorySink::new(alloc, 108, 40, Vec::new(alloc))?;
-    assert_eq!(rt; write_whole(&mut sink, &piece), Ok(()));
-    assert_eq!(rt; sink.held(), &piece[..]);
-    assert_eq!(rt; sink.give(&[1]), Err(Failed));
-
     let mut sink = MemorySink::new(alloc, 108, 40, vec![in alloc; 3]?)?;
     assert_eq!(rt; write_whole(&mut sink, &piece), Err(Failed));
     assert_eq!(rt; sink.held(), &counted(alloc, 80)?[..]);
+    Ok(())
+}
+
+/// No contract can say that ample memory is not refused.
+#[test]
+fn grows_with_each_piece(rt: HostRuntime) -> Result<(), Fail> {
+    let alloc = rt.alloc();
+    let mut sink = GrowingSink::new(alloc);
+    assert_eq!(rt; write_whole(&mut sink, b"one "), Ok(()));
+    assert_eq!(rt; write_whole(&mut sink, b"two"), Ok(()));
+    assert!(rt; sink.into_held().as_slice() == b"one two".as_slice());
     Ok(())
 }
 

@@ -10,10 +10,11 @@ pub record IsSide (side : ℕ) : Type 0 where
   pub low : 1 ≤ side
   pub high : side ≤ 32
 
--- the sequence of a seed: each number follows from the one before it
+-- the number that follows a number of a sequence
 abbrev pub number_after : ℕ → ℕ
 number_after v = (v * 6364136223846793005 + 1442695040888963407) % 2 ^ 64
 
+-- the sequence that begins with the seed
 unfoldable pub sequence : ℕ → ℕ → ℕ
 sequence seed zero = seed
 sequence seed (suc k) = number_after (sequence seed k)
@@ -22,20 +23,23 @@ sequence seed (suc k) = number_after (sequence seed k)
 abbrev pub draw : ℕ → ℕ → ℕ
 draw seed k = sequence seed k / 2 ^ 32
 
--- the distance of two sites on an axis, and the smoothing length, in length units
+-- the distance of two sites on an axis, in length units
 abbrev pub spacing : ℕ → ℕ
 spacing side = 2 ^ 20 / side
 
+-- the smoothing length, in length units
 abbrev pub length_of : ℕ → ℕ
 length_of side = min 131072 (2 * spacing side)
 
--- a coordinate, a mass and a component of a momentum from a draw; a coordinate is at most a quarter of the spacing past its site
+-- a coordinate from a draw: at most a quarter of the spacing past its site
 abbrev pub coordinate_drawn : ℕ → ℕ → ℕ → ℕ
 coordinate_drawn side site v = site * spacing side + v % (spacing side / 4)
 
+-- a mass from a draw
 abbrev pub mass_drawn : ℕ → ℕ
 mass_drawn v = 1024 + v % 1024
 
+-- a component of a momentum from a draw
 abbrev pub momentum_drawn : ℕ → ℤ
 momentum_drawn v = pos (v % 2 ^ 24) -ℤ pos (2 ^ 23)
 

@@ -15,9 +15,11 @@ pub record IsWhole (deck : Deck) (t : ℕ) : Type 0 where
   pub ranges : IsSnapshot (snapshot_at deck t)
   pub kicked : All (λ (p : Particle). p.t0 ≡ t) (after deck t)
 
+-- each snapshot of an accepted deck is whole
 abbrev pub SnapshotsAreWhole : Type 0
 SnapshotsAreWhole = (deck : Deck) (t : ℕ) → AreAccepted deck.params deck.particles → IsSnapshotTick deck.params t → IsWhole deck t
 
+-- the stream of an accepted deck is one that a reader takes, of just these snapshots
 abbrev pub StreamsCanBeRead : Type 0
 StreamsCanBeRead = (deck : Deck) → AreAccepted deck.params deck.particles → IsStreamOf (deck_stream deck) (snapshots_of deck)
 

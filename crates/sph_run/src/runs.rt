@@ -39,6 +39,7 @@ pub fn run<R: Threads + Sync, O: Sink, G: Gate>(
     ensures write_fault { result ≡ RunEnd.WriteFault → Rose (O.faults out.old) (O.faults out.new) }
     ensures write_fault_output { result ≡ RunEnd.WriteFault → AppendsPrefix (O.held out.old) (O.held out.new) (output_in form deck.now) }
     ensures memory { result ≡ RunEnd.Memory → AppendsPiecesIn form deck.now (O.held out.old) (O.held out.new) }
+    ensures kept { (result ≡ RunEnd.WriteFault → ⊥) → O.faults out.new ≡ O.faults out.old }
 {
     let Ok(steps) = GraphSteps::new(alloc) else {
         return RunEnd::Memory;
@@ -57,6 +58,7 @@ pub fn run_plain<O: Sink>(alloc: Global, deck: &Deck, form: Form, out: &mut O) -
     ensures write_fault { result ≡ RunEnd.WriteFault → Rose (O.faults out.old) (O.faults out.new) }
     ensures write_fault_output { result ≡ RunEnd.WriteFault → AppendsPrefix (O.held out.old) (O.held out.new) (output_in form deck.now) }
     ensures memory { result ≡ RunEnd.Memory → AppendsPiecesIn form deck.now (O.held out.old) (O.held out.new) }
+    ensures kept { (result ≡ RunEnd.WriteFault → ⊥) → O.faults out.new ≡ O.faults out.old }
 {
     let Ok(steps) = PlainSteps::new(alloc) else {
         return RunEnd::Memory;
@@ -81,6 +83,7 @@ fn run_by<F: Fn(&mut Vec<Particle>, u32) -> Result<(), AllocError>, O: Sink>(
     ensures write_fault { result ≡ RunEnd.WriteFault → Rose (O.faults out.old) (O.faults out.new) }
     ensures write_fault_output { result ≡ RunEnd.WriteFault → AppendsPrefix (O.held out.old) (O.held out.new) (output_in form deck.now) }
     ensures memory { result ≡ RunEnd.Memory → AppendsPiecesIn form deck.now (O.held out.old) (O.held out.new) }
+    ensures kept { (result ≡ RunEnd.WriteFault → ⊥) → O.faults out.new ≡ O.faults out.old }
 {
     let Ok(mut particles) = start(alloc, deck) else {
         return RunEnd::Memory;

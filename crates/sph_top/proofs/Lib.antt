@@ -1,3 +1,4 @@
+pub mod Headlines
 pub mod Jobs
 pub mod NamedKeys
 pub mod Reported

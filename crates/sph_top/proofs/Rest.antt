@@ -15,7 +15,7 @@ use Rattle.sph_edge.specs.Whole.{GaveTooMuch}
 use Rattle.sph_top.specs.declared.status.Status.{Status}
 use Rattle.sph_deck.specs.declared.fault.DeckFault.TheVariants.{TooLong}
 use Rattle.sph_top.specs.declared.status.Status.TheVariants.{Done, Usage, DeckRefused, ReadFault, WriteFault, NoMemory}
-use Rattle.sph_top.specs.Answers.{Seen, IsAcceptedDeck, WasRead, ReadsDeck, HasAcceptedDeck, HasOutput, IsDeckFaulty, IsDeckTooLong, AppendsSome, AppendsToAnEnd, IsWithoutOutput, Rests}
+use Rattle.sph_top.specs.Answers.{Change, IsAcceptedDeck, WasRead, ReadsDeck, HasAcceptedDeck, HasOutput, IsDeckFaulty, IsDeckTooLong, AppendsSome, AppendsToAnEnd, IsWithoutFault, IsWithoutOutput, Rests, Seen}
 use Rattle.sph_top.specs.Output.{Output}
 use Rattle.sph_top.specs.inner.Steps.{HasMadeLine, NamesItsKey}
 use Rattle.sph_top.specs.Words.{HasWordsFault, NamesAJob, NamesAReader, reads_deck}
@@ -49,25 +49,25 @@ GaveTooMuch-long limit before after bytes has gave =
     GaveTooMuch-long_of limit bytes gave.bytes after (subst (λ b. Consumes b after gave.bytes) has gave.gave) gave.past
 
 -- whole pieces of the output are some first bytes of it
-AppendsSome-to_an_end : (words : List (String Global)) (source source' out out' : Seen) → AppendsToAnEnd words source source' out out'
-    → AppendsSome words source source' out out'
-AppendsSome-to_an_end words source source' out out' (inl none) = inl none
-AppendsSome-to_an_end words source source' out out' (inr some) =
-    inr (some.0, some.1, AppendsPrefix-pieces some.0 out.bytes out'.bytes some.2)
+AppendsSome-to_an_end : (words : List (String Global)) (source out : Change) → AppendsToAnEnd words source out
+    → AppendsSome words source out
+AppendsSome-to_an_end words source out (inl none) = inl none
+AppendsSome-to_an_end words source out (inr some) =
+    inr (some.0, some.1, AppendsPrefix-pieces some.0 out.before.bytes out.after.bytes some.2)
 
 -- a sink that stays as it was gets nothing
-Appends-same : (out out' : Seen) → out' ≡ out → Appends out.bytes out'.bytes []
-Appends-same out out' same = subst (λ (o : Seen). Appends out.bytes o.bytes []) (sym same) (Appends-nil out.bytes)
+Appends-same : (out : Change) → out.after ≡ out.before → Appends out.before.bytes out.after.bytes []
+Appends-same out same = subst (λ (o : Seen). Appends out.before.bytes o.bytes []) (sym same) (Appends-nil out.before.bytes)
 
 -- what was appended before any answer but Done
-pub AppendsSome-rests : (status : Status) (words : List (String Global)) (source source' out out' : Seen) → (status ≡ Done → ⊥)
-    → (IsWithoutOutput status → out' ≡ out) → Rests status words source source' out out' → AppendsSome words source source' out out'
-AppendsSome-rests Done words source source' out out' undone same rests = absurd (undone refl)
-AppendsSome-rests (Usage fault) words source source' out out' undone same rests = inl (Appends-same out out' (same tt))
-AppendsSome-rests (DeckRefused fault) words source source' out out' undone same rests = inl (Appends-same out out' (same tt))
-AppendsSome-rests ReadFault words source source' out out' undone same rests = inl (Appends-same out out' (same tt))
-AppendsSome-rests WriteFault words source source' out out' undone same rests = inr (rests.0, rests.1, rests.3)
-AppendsSome-rests NoMemory words source source' out out' undone same rests = AppendsSome-to_an_end words source source' out out' rests
+pub AppendsSome-rests : (status : Status) (words : List (String Global)) (source out : Change) → (status ≡ Done → ⊥)
+    → (IsWithoutOutput status → out.after ≡ out.before) → Rests status words source out → AppendsSome words source out
+AppendsSome-rests Done words source out undone same rests = absurd (undone refl)
+AppendsSome-rests (Usage fault) words source out undone same rests = inl (Appends-same out (same tt))
+AppendsSome-rests (DeckRefused fault) words source out undone same rests = inl (Appends-same out (same tt))
+AppendsSome-rests ReadFault words source out undone same rests = inl (Appends-same out (same tt))
+AppendsSome-rests WriteFault words source out undone same rests = inr (rests.0, rests.1, rests.3)
+AppendsSome-rests NoMemory words source out undone same rests = AppendsSome-to_an_end words source out rests.0
 
 -- the answers whose line takes memory leave the output as it was
 made_without : (status : Status) → HasMadeLine status → IsWithoutOutput status
@@ -78,77 +78,98 @@ made_without ReadFault made = absurd made
 made_without WriteFault made = absurd made
 made_without NoMemory made = absurd made
 
+-- and they tell no fault of a device
+pub made_without_fault : (status : Status) → HasMadeLine status → IsWithoutFault status
+made_without_fault (Usage fault) made = tt
+made_without_fault (DeckRefused fault) made = tt
+made_without_fault Done made = absurd made
+made_without_fault ReadFault made = absurd made
+made_without_fault WriteFault made = absurd made
+made_without_fault NoMemory made = absurd made
+
+-- where no fault of a device is told, no call of `out` failed
+pub out_kept : (status : Status) (words : List (String Global)) (source out : Change) → IsWithoutFault status
+    → (IsWithoutOutput status → out.after ≡ out.before) → Rests status words source out → out.after.faults ≡ out.before.faults
+out_kept Done words source out none same rests = rests.none_failed
+out_kept (Usage fault) words source out none same rests = ap (λ (o : Seen). o.faults) (same tt)
+out_kept (DeckRefused fault) words source out none same rests = ap (λ (o : Seen). o.faults) (same tt)
+out_kept ReadFault words source out none same rests = absurd none
+out_kept WriteFault words source out none same rests = absurd none
+out_kept NoMemory words source out none same rests = rests.1
+
 -- where there was no memory for such a line, nothing was appended
-pub NoMemory-made : (status : Status) (words : List (String Global)) (source source' out out' : Seen) → HasMadeLine status
-    → (IsWithoutOutput status → out' ≡ out) → Rests NoMemory words source source' out out'
-NoMemory-made status words source source' out out' made same = inl (Appends-same out out' (same (made_without status made)))
+pub NoMemory-made : (status : Status) (words : List (String Global)) (source out : Change) → HasMadeLine status
+    → (IsWithoutOutput status → out.after ≡ out.before) → Rests NoMemory words source out
+NoMemory-made status words source out made same =
+    let is = same (made_without status made) in
+    (inl (Appends-same out is), ap (λ (o : Seen). o.faults) is)
 
 -- a refused deck's fault names its key
-NamesKey-refused : (fault : DeckFault) (source source' : Seen) → ((fault ≡ TooLong) × IsDeckTooLong source source') ⊎ IsDeckFaulty fault source source' → NamesKey fault
-NamesKey-refused fault source source' (inl long) = subst NamesKey (sym long.0) tt
-NamesKey-refused fault source source' (inr faulty) = NamesKey-stands faulty.bytes fault faulty.first.stands
+NamesKey-refused : (fault : DeckFault) (source : Change) → ((fault ≡ TooLong) × IsDeckTooLong source) ⊎ IsDeckFaulty fault source → NamesKey fault
+NamesKey-refused fault source (inl long) = subst NamesKey (sym long.0) tt
+NamesKey-refused fault source (inr faulty) = NamesKey-stands faulty.bytes fault faulty.first.stands
 
-pub NamesItsKey-rests : (status : Status) (words : List (String Global)) (source source' out out' : Seen) → Rests status words source source' out out'
+pub NamesItsKey-rests : (status : Status) (words : List (String Global)) (source out : Change) → Rests status words source out
     → NamesItsKey status
-NamesItsKey-rests (DeckRefused fault) words source source' out out' rests = NamesKey-refused fault source source' rests.1
-NamesItsKey-rests _ words source source' out out' rests = tt
+NamesItsKey-rests (DeckRefused fault) words source out rests = NamesKey-refused fault source rests.1
+NamesItsKey-rests _ words source out rests = tt
 
 -- Where the source tells its bytes and no read failed, the answer is that of these bytes.
-module _ (source source' : Seen) (bytes : List ℕ) (has : source.bytes ≡ Some bytes) where
+module _ (source : Change) (bytes : List ℕ) (has : source.before.bytes ≡ Some bytes) where
   -- the bytes that were read
-  same : (given : List ℕ) → WasRead source source' given → given ≡ bytes
-  same given read = GaveAll-same source.bytes source'.bytes bytes given has read.gave
+  same : (given : List ℕ) → WasRead source given → given ≡ bytes
+  same given read = GaveAll-same source.before.bytes source.after.bytes bytes given has read.gave
 
   -- an accepted deck that was read is that of the bytes
-  deck_of : (deck : Deck) → ReadsDeck source source' deck → IsAcceptedDeck bytes deck
+  deck_of : (deck : Deck) → ReadsDeck source deck → IsAcceptedDeck bytes deck
   deck_of deck reads = subst (λ l. IsAcceptedDeck l deck) (same reads.bytes reads.read) reads.deck_is
 
   -- the fault for which the deck was refused is the first of the bytes
-  fault_of : (fault : DeckFault) → ((fault ≡ TooLong) × IsDeckTooLong source source') ⊎ IsDeckFaulty fault source source' → IsFirstFault bytes fault
+  fault_of : (fault : DeckFault) → ((fault ≡ TooLong) × IsDeckTooLong source) ⊎ IsDeckFaulty fault source → IsFirstFault bytes fault
   fault_of fault (inl long) =
-      subst (IsFirstFault bytes) (sym long.0) (first_too_long bytes (GaveTooMuch-long longest_text source.bytes source'.bytes bytes has long.1.gave))
+      subst (IsFirstFault bytes) (sym long.0) (first_too_long bytes (GaveTooMuch-long longest_text source.before.bytes source.after.bytes bytes has long.1.gave))
   fault_of fault (inr faulty) = subst (λ l. IsFirstFault l fault) (same faulty.bytes faulty.read) faulty.first
 
   -- the output of a job that reads a deck is for an accepted one
-  accepted_output : (words : List (String Global)) (output : Output) → NamesAReader words → HasOutput words source source' output → IsAccepted bytes
+  accepted_output : (words : List (String Global)) (output : Output) → NamesAReader words → HasOutput words source output → IsAccepted bytes
   accepted_output words output reader of =
       let reads : reads_deck of.job ≡ true = ap reads_deck (same_job words of.job reader.0 of.named reader.1) ∙ reader.2 in
-      let deck = output_reads (ReadsDeck source source') of.job output reads of.is in
+      let deck = output_reads (ReadsDeck source) of.job output reads of.is in
       (deck_of deck.0 deck.1).accepted
 
 -- a text with a first fault is refused for it
-pub refused : (words : List (String Global)) (source source' out out' : Seen) → NamesAReader words → (bytes : List ℕ) → source.bytes ≡ Some bytes
-    → Stayed source.faults source'.faults → (status : Status) → Rests status words source source' out out' → (fault : DeckFault) → IsFirstFault bytes fault
+pub refused : (words : List (String Global)) (source out : Change) → NamesAReader words → (bytes : List ℕ) → source.before.bytes ≡ Some bytes
+    → Stayed source.before.faults source.after.faults → (status : Status) → Rests status words source out → (fault : DeckFault) → IsFirstFault bytes fault
     → (status ≡ DeckRefused fault) ⊎ (status ≡ NoMemory)
-refused words source source' out out' reader bytes has stayed Done rests fault first =
-    absurd (accepted_output source source' bytes has words rests.output reader rests.has fault first.stands)
-refused words source source' out out' reader bytes has stayed (Usage other) rests fault first =
+refused words source out reader bytes has stayed Done rests fault first =
+    absurd (accepted_output source bytes has words rests.output reader rests.has fault first.stands)
+refused words source out reader bytes has stayed (Usage other) rests fault first =
     absurd (named_no_fault words other (reader_names words reader) rests)
-refused words source source' out out' reader bytes has stayed (DeckRefused other) rests fault first =
-    inl (ap DeckRefused (IsFirstFault-unique bytes other fault (fault_of source source' bytes has other rests.1) first))
-refused words source source' out out' reader bytes has stayed ReadFault rests fault first = absurd (stayed_not_rose source.faults source'.faults stayed rests.1)
-refused words source source' out out' reader bytes has stayed WriteFault rests fault first =
-    absurd (accepted_output source source' bytes has words rests.0 reader rests.1 fault first.stands)
-refused words source source' out out' reader bytes has stayed NoMemory rests fault first = inr refl
+refused words source out reader bytes has stayed (DeckRefused other) rests fault first =
+    inl (ap DeckRefused (IsFirstFault-unique bytes other fault (fault_of source bytes has other rests.1) first))
+refused words source out reader bytes has stayed ReadFault rests fault first = absurd (stayed_not_rose source.before.faults source.after.faults stayed rests.1)
+refused words source out reader bytes has stayed WriteFault rests fault first =
+    absurd (accepted_output source bytes has words rests.0 reader rests.1 fault first.stands)
+refused words source out reader bytes has stayed NoMemory rests fault first = inr refl
 
 -- words with a fault are refused for it
-pub usage : (words : List (String Global)) (source source' out out' : Seen) (fault : WordsFault) → HasWordsFault words fault
-    → (status : Status) → Rests status words source source' out out' → (status ≡ Usage fault) ⊎ (status ≡ NoMemory)
-usage words source source' out out' fault has Done rests = absurd (named_no_fault words fault (rests.has.job, rests.has.named) has)
-usage words source source' out out' fault has (Usage other) rests = inl (ap Usage (same_fault words other fault rests has))
-usage words source source' out out' fault has (DeckRefused other) rests = absurd (named_no_fault words fault (reader_names words rests.0) has)
-usage words source source' out out' fault has ReadFault rests = absurd (named_no_fault words fault (reader_names words rests.0) has)
-usage words source source' out out' fault has WriteFault rests = absurd (named_no_fault words fault (rests.1.job, rests.1.named) has)
-usage words source source' out out' fault has NoMemory rests = inr refl
+pub usage : (words : List (String Global)) (source out : Change) (fault : WordsFault) → HasWordsFault words fault
+    → (status : Status) → Rests status words source out → (status ≡ Usage fault) ⊎ (status ≡ NoMemory)
+usage words source out fault has Done rests = absurd (named_no_fault words fault (rests.has.job, rests.has.named) has)
+usage words source out fault has (Usage other) rests = inl (ap Usage (same_fault words other fault rests has))
+usage words source out fault has (DeckRefused other) rests = absurd (named_no_fault words fault (reader_names words rests.0) has)
+usage words source out fault has ReadFault rests = absurd (named_no_fault words fault (reader_names words rests.0) has)
+usage words source out fault has WriteFault rests = absurd (named_no_fault words fault (rests.1.job, rests.1.named) has)
+usage words source out fault has NoMemory rests = inr refl
 
 -- the job is done on an accepted deck where it reads one, where no write failed
-pub job_done : (words : List (String Global)) (source source' out out' : Seen) → NamesAJob words → (NamesAReader words → HasAcceptedDeck source source')
-    → Stayed out.faults out'.faults → (status : Status) → Rests status words source source' out out' → (status ≡ Done) ⊎ (status ≡ NoMemory)
-job_done words source source' out out' job input kept Done rests = inl refl
-job_done words source source' out out' job input kept (Usage fault) rests = absurd (named_no_fault words fault job rests)
-job_done words source source' out out' job input kept (DeckRefused fault) rests =
+pub job_done : (words : List (String Global)) (source out : Change) → NamesAJob words → (NamesAReader words → HasAcceptedDeck source)
+    → Stayed out.before.faults out.after.faults → (status : Status) → Rests status words source out → (status ≡ Done) ⊎ (status ≡ NoMemory)
+job_done words source out job input kept Done rests = inl refl
+job_done words source out job input kept (Usage fault) rests = absurd (named_no_fault words fault job rests)
+job_done words source out job input kept (DeckRefused fault) rests =
     let deck = input rests.0 in
-    absurd (deck.accepted fault (fault_of source source' deck.bytes deck.left fault rests.1).stands)
-job_done words source source' out out' job input kept ReadFault rests = absurd (stayed_not_rose source.faults source'.faults (input rests.0).stayed rests.1)
-job_done words source source' out out' job input kept WriteFault rests = absurd (stayed_not_rose out.faults out'.faults kept rests.2)
-job_done words source source' out out' job input kept NoMemory rests = inr refl
+    absurd (deck.accepted fault (fault_of source deck.bytes deck.left fault rests.1).stands)
+job_done words source out job input kept ReadFault rests = absurd (stayed_not_rose source.before.faults source.after.faults (input rests.0).stayed rests.1)
+job_done words source out job input kept WriteFault rests = absurd (stayed_not_rose out.before.faults out.after.faults kept rests.2)
+job_done words source out job input kept NoMemory rests = inr refl

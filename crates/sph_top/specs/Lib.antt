@@ -4,6 +4,7 @@ pub use Rattle.sph_edge.specs.Bytes
 pub use Rattle.sph_edge.specs.Causes
 pub use Rattle.sph_report.specs.DeckLines
 pub mod Answers
+pub mod Headline
 pub mod Lines
 pub mod Output
 pub mod Words

@@ -5,9 +5,11 @@ use Rattle.sph_report.specs.WordsLines.{words_line}
 use Rattle.sph_top.specs.declared.status.Status.{Status}
 use Rattle.sph_top.specs.declared.status.Status.TheVariants.{Done, Usage, DeckRefused, ReadFault, WriteFault, NoMemory}
 
+-- a text and the end of its line
 abbrev pub line : List ℕ → List ℕ
 line text = text ++ 10 ∷ []
 
+-- the line of an answer; none for Done
 unfoldable pub error_line : Status → List ℕ
 error_line Done = []
 error_line (Usage fault) = words_line fault

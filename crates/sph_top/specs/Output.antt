@@ -16,6 +16,7 @@ pub data Output : Type 0 where
   summary : Deck → Output
   text : List ℕ → Output
 
+-- the bytes of an output
 abbrev pub bytes_of : Output → List ℕ
 bytes_of (stream deck) = deck_stream deck
 bytes_of (summary deck) = deck_summary deck

@@ -6,12 +6,15 @@ use Rattle.sph_words.specs.declared.job.Job.{Job}
 use Rattle.sph_words.specs.declared.job.Job.TheVariants.{Generate, Sample}
 use Rattle.sph_words.specs.Jobs.{asked}
 
+-- the words name this job
 abbrev pub NamesJob : List (String Global) → Job → Type 0
 NamesJob words job = asked (map string_bytes words) ≡ Ok job
 
+-- the words name no job, and this is their first fault
 abbrev pub HasWordsFault : List (String Global) → WordsFault → Type 0
 HasWordsFault words fault = asked (map string_bytes words) ≡ Err fault
 
+-- the words name some job
 abbrev pub NamesAJob : List (String Global) → Type 0
 NamesAJob words = (job : Job) × NamesJob words job
 

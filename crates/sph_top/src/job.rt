@@ -2,7 +2,7 @@
 ghost use Rattle.std.specs.Prelude.{◌≡◌, true, false, List};
 ghost use Rattle.std.specs.declared.alloc.Global.{Global};
 ghost use Rattle.std.specs.Prelude.{String};
-ghost use Rattle.sph_top.specs.Answers.{seen, IsWithoutOutput, Rests};
+ghost use Rattle.sph_top.specs.Answers.{change, IsWithoutFault, IsWithoutOutput, Rests};
 ghost use Rattle.sph_top.specs.Words.{NamesJob, reads_deck};
 ghost use Rattle.sph_top.specs.inner.Steps.{Follows, HasNumbers, Writes};
 
@@ -28,9 +28,10 @@ pub fn do_job<R: Threads + Sync, S: Source, O: Sink, G: Gate>(
     gate: &G,
 ) -> Status
     requires numbers { HasNumbers job }
-    ensures rests { (words : List (String Global)) → NamesJob words job → Rests result words (seen S.left S.faults source.old) (seen S.left S.faults source.new)
-        (seen O.held O.faults out.old) (seen O.held O.faults out.new) }
+    ensures rests { (words : List (String Global)) → NamesJob words job → Rests result words (change S.left S.faults source.old source.new)
+        (change O.held O.faults out.old out.new) }
     ensures unread { reads_deck job ≡ false → source.new ≡ source.old }
+    ensures kept { IsWithoutFault result → S.faults source.new ≡ S.faults source.old }
     ensures untouched { IsWithoutOutput result → out.new ≡ out.old }
 {
     match job {
@@ -55,8 +56,9 @@ fn do_on_source<R: Threads + Sync, S: Source, O: Sink, G: Gate>(
 ) -> Status
     requires reads { reads_deck job ≡ true }
     requires numbers { HasNumbers job }
-    ensures rests { (words : List (String Global)) → NamesJob words job → Rests result words (seen S.left S.faults source.old) (seen S.left S.faults source.new)
-        (seen O.held O.faults out.old) (seen O.held O.faults out.new) }
+    ensures rests { (words : List (String Global)) → NamesJob words job → Rests result words (change S.left S.faults source.old source.new)
+        (change O.held O.faults out.old out.new) }
+    ensures kept { IsWithoutFault result → S.faults source.new ≡ S.faults source.old }
     ensures untouched { IsWithoutOutput result → out.new ≡ out.old }
 {
     match read_whole(alloc, source, LONGEST_TEXT) {
@@ -68,7 +70,7 @@ fn do_on_source<R: Threads + Sync, S: Source, O: Sink, G: Gate>(
 }
 
 /// Reads a deck, and does the job on it where it is accepted.
-fn do_on_text<R: Threads + Sync, O: Sink, G: Gate>(
+pub fn do_on_text<R: Threads + Sync, O: Sink, G: Gate>(
     rt: &R,
     alloc: Global,
     job: Job,
@@ -78,7 +80,7 @@ fn do_on_text<R: Threads + Sync, O: Sink, G: Gate>(
 ) -> Status
     requires reads { reads_deck job ≡ true }
     requires numbers { HasNumbers job }
-    ensures follows { Follows job bytes.now result (seen O.held O.faults out.old) (seen O.held O.faults out.new) }
+    ensures follows { Follows job bytes.now result (change O.held O.faults out.old out.new) }
     ensures untouched { IsWithoutOutput result → out.new ≡ out.old }
 {
     match read_deck(alloc, bytes) {
@@ -99,7 +101,7 @@ fn write_output<R: Threads + Sync, O: Sink, G: Gate>(
 ) -> Status
     requires reads { reads_deck job ≡ true }
     requires numbers { HasNumbers job }
-    ensures { Writes job (λ d. d ≡ deck.now) result (seen O.held O.faults out.old) (seen O.held O.faults out.new) }
+    ensures { Writes job (λ d. d ≡ deck.now) result (change O.held O.faults out.old out.new) }
 {
     match job {
         Job::Run { workers } => run(rt, alloc, deck, workers, Form::Snapshots, out, gate),

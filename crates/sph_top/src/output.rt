@@ -1,7 +1,7 @@
 //! Writing an output, and what is answered for it.
 ghost use Rattle.std.specs.Prelude.{◌≡◌, ℕ, List, IfOk};
 ghost use Rattle.sph_lattice.specs.Lattice.{IsSide};
-ghost use Rattle.sph_top.specs.Answers.{seen};
+ghost use Rattle.sph_top.specs.Answers.{change};
 ghost use Rattle.sph_top.specs.Output.{stream, text};
 ghost use Rattle.sph_top.specs.inner.Steps.{AreWorkers, WritesOutput, WritesSample, run_output, status_at};
 
@@ -25,14 +25,14 @@ pub fn run<R: Threads + Sync, O: Sink, G: Gate>(
     gate: &G,
 ) -> Status
     requires { AreWorkers workers }
-    ensures { WritesOutput (run_output form deck.now) result (seen O.held O.faults out.old) (seen O.held O.faults out.new) }
+    ensures { WritesOutput (run_output form deck.now) result (change O.held O.faults out.old out.new) }
 {
     status_at(sph_run::run(rt, alloc, deck, workers, form, out, gate))
 }
 
 /// Runs a deck by sums over all pairs, and writes its stream.
 pub fn plain<O: Sink>(alloc: Global, deck: &Deck, out: &mut O) -> Status
-    ensures { WritesOutput (stream deck.now) result (seen O.held O.faults out.old) (seen O.held O.faults out.new) }
+    ensures { WritesOutput (stream deck.now) result (change O.held O.faults out.old out.new) }
 {
     status_at(run_plain(alloc, deck, Form::Snapshots, out))
 }
@@ -60,7 +60,7 @@ pub fn sample<R: Threads + Sync, O: Sink, G: Gate>(
 ) -> Status
     requires side { IsSide side }
     requires workers { AreWorkers workers }
-    ensures { WritesSample side seed result (seen O.held O.faults out.old) (seen O.held O.faults out.new) }
+    ensures { WritesSample side seed result (change O.held O.faults out.old out.new) }
 {
     match lattice_deck(alloc, side, seed) {
         Ok(deck) => run(rt, alloc, &deck, workers, Form::Summary, out, gate),
@@ -71,7 +71,7 @@ pub fn sample<R: Threads + Sync, O: Sink, G: Gate>(
 /// Writes a text whole, if there was memory for it.
 pub fn write_text<O: Sink>(made: Result<Vec<u8>, AllocError>, out: &mut O) -> Status
     ensures { (whole : List ℕ) → IfOk made (λ bytes. bytes.items ≡ whole)
-        → WritesOutput (text whole) result (seen O.held O.faults out.old) (seen O.held O.faults out.new) }
+        → WritesOutput (text whole) result (change O.held O.faults out.old out.new) }
 {
     let whole = match made {
         Ok(whole) => whole,

@@ -2,7 +2,7 @@
 ghost use Rattle.std.specs.Prelude.{◌≡◌};
 ghost use Rattle.sph_deck.specs.declared.fault.DeckFault.{DeckFault};
 ghost use Rattle.sph_report.specs.DeckLines.{NamesKey};
-ghost use Rattle.sph_top.specs.Answers.{seen};
+ghost use Rattle.sph_top.specs.Answers.{change};
 ghost use Rattle.sph_top.specs.Lines.{error_line};
 ghost use Rattle.sph_top.specs.inner.Steps.{IsTold, NamesItsKey, Reports};
 
@@ -21,7 +21,7 @@ const NO_MEMORY: &[u8] = b"swiftq: no memory\n";
 #[tactic(auto, unfolding(crate::specs::Lines::error_line))]
 pub fn report<E: Sink>(alloc: Global, status: Status, err: &mut E) -> Status
     requires { NamesItsKey status }
-    ensures told { Reports status result (seen E.held E.faults err.old) (seen E.held E.faults err.new) }
+    ensures told { Reports status result (change E.held E.faults err.old err.new) }
     ensures untouched { status ≡ Status.Done → err.new ≡ err.old }
 {
     match status {
@@ -37,7 +37,7 @@ pub fn report<E: Sink>(alloc: Global, status: Status, err: &mut E) -> Status
 /// The same for a fault of the words.
 #[tactic(auto, unfolding(crate::specs::Lines::error_line))]
 fn report_usage<E: Sink>(alloc: Global, fault: WordsFault, err: &mut E) -> Status
-    ensures { Reports (Status.Usage fault) result (seen E.held E.faults err.old) (seen E.held E.faults err.new) }
+    ensures { Reports (Status.Usage fault) result (change E.held E.faults err.old err.new) }
 {
     match words_text(alloc, &fault) {
         Ok(line) => tell(Status::Usage(fault), &line, err),
@@ -49,7 +49,7 @@ fn report_usage<E: Sink>(alloc: Global, fault: WordsFault, err: &mut E) -> Statu
 #[tactic(auto, unfolding(crate::specs::Lines::error_line))]
 fn report_refused<E: Sink>(alloc: Global, fault: DeckFault, err: &mut E) -> Status
     requires { NamesKey fault }
-    ensures { Reports (Status.DeckRefused fault) result (seen E.held E.faults err.old) (seen E.held E.faults err.new) }
+    ensures { Reports (Status.DeckRefused fault) result (change E.held E.faults err.old err.new) }
 {
     match deck_text(alloc, &fault) {
         Ok(line) => tell(Status::DeckRefused(fault), &line, err),
@@ -61,7 +61,7 @@ fn report_refused<E: Sink>(alloc: Global, fault: DeckFault, err: &mut E) -> Stat
 fn tell<E: Sink>(status: Status, line: &[u8], err: &mut E) -> Status
     requires refusal { status ≡ Status.Done → ⊥ }
     requires line { line.now ≡ error_line status }
-    ensures { IsTold status result (seen E.held E.faults err.old) (seen E.held E.faults err.new) }
+    ensures { IsTold status result (change E.held E.faults err.old err.new) }
 {
     match write_whole(err, line) {
         Ok(()) => status,

@@ -26,46 +26,52 @@ fn takes_by_one_read(rt: HostRuntime) {
     let mut reader = CountedReader { calls: 0 };
     let mut source = StdSource::new(&mut reader);
     assert_eq!(rt; source.take(&mut [0; 4]), Err(Failed));
-    assert_eq!(rt; source.faults, 1);
     assert_eq!(rt; source.take(&mut [0; 4]), Ok(0));
     assert_eq!(rt; source.take(&mut [0; 4]), Ok(1));
     assert_eq!(rt; reader.calls, 3);
 }
 
-/// A writer that takes two bytes a call at most. It counts its writes, its flushes, and the bytes that
-/// are written and not yet flushed.
+/// A writer that takes two bytes a call at most, and that is interrupted in one call, a write or a flush.
+/// It counts both, and the bytes that are written and not yet flushed.
 #[derive(Drop)]
 struct CountedWriter {
-    flush_fails: bool,
+    interrupted: u32,
     writes: u32,
     flushes: u32,
     unflushed: usize,
 }
 
 impl CountedWriter {
-    fn new(flush_fails: bool) -> CountedWriter {
+    fn new(interrupted: u32) -> CountedWriter {
         CountedWriter {
-            flush_fails,
+            interrupted,
             writes: 0,
             flushes: 0,
             unflushed: 0,
         }
     }
+
+    /// What the call answers that was just counted.
+    fn answer(&self) -> io::Result<()> {
+        if self.writes.saturating_add(self.flushes) == self.interrupted {
+            return Err(ErrorKind::Interrupted.into());
+        }
+        Ok(())
+    }
 }
 
 impl Write for CountedWriter {
     fn write(&mut self, bytes: &[u8]) -> io::Result<usize> {
-        let count = bytes.len().min(2);
         self.writes = self.writes.saturating_add(1);
+        self.answer()?;
+        let count = bytes.len().min(2);
         self.unflushed = self.unflushed.saturating_add(count);
         Ok(count)
     }
 
     fn flush(&mut self) -> io::Result<()> {
         self.flushes = self.flushes.saturating_add(1);
-        if self.flush_fails {
-            return Err(ErrorKind::Other.into());
-        }
+        self.answer()?;
         self.unflushed = 0;
         Ok(())
     }
@@ -73,63 +79,20 @@ impl Write for CountedWriter {
 
 #[test]
 fn gives_by_one_write_and_then_one_flush(rt: HostRuntime) {
-    let mut writer = CountedWriter::new(false);
+    let mut writer = CountedWriter::new(0);
     let mut sink = StdSink::new(&mut writer);
     assert_eq!(rt; sink.give(b"one"), Ok(2));
-    assert_eq!(rt; (writer.writes, writer.flushes), (1, 1));
-    assert_eq!(rt; writer.unflushed, 0);
-}
-
-#[test]
-fn flushes_each_piece(rt: HostRuntime) {
-    let mut writer = CountedWriter::new(false);
-    let mut sink = StdSink::new(&mut writer);
-    assert_eq!(rt; write_whole(&mut sink, b"one"), Ok(()));
     assert_eq!(rt; write_whole(&mut sink, b"two"), Ok(()));
-    assert_eq!(rt; (writer.writes, writer.flushes), (4, 4));
+    assert_eq!(rt; (writer.writes, writer.flushes), (3, 3));
     assert_eq!(rt; writer.unflushed, 0);
 }
 
 #[test]
-fn failed_flush_is_a_fault(rt: HostRuntime) {
-    let mut writer = CountedWriter::new(true);
-    let mut sink = StdSink::new(&mut writer);
-    assert_eq!(rt; sink.give(b"one"), Err(Failed));
-    assert_eq!(rt; sink.faults, 1);
-    assert_eq!(rt; (writer.writes, writer.flushes), (1, 1));
-}
-
-/// A writer whose first write is interrupted. It counts its writes and its flushes.
-#[derive(Drop)]
-struct InterruptedWriter {
-    writes: u32,
-    flushes: u32,
-}
-
-impl Write for InterruptedWriter {
-    fn write(&mut self, bytes: &[u8]) -> io::Result<usize> {
-        self.writes = self.writes.saturating_add(1);
-        match self.writes {
-            1 => Err(ErrorKind::Interrupted.into()),
-            _ => Ok(bytes.len()),
-        }
+fn failed_write_or_flush_is_not_tried_again(rt: HostRuntime) {
+    for (interrupted, writes, flushes) in [(1, 1, 0), (2, 1, 1)] {
+        let mut writer = CountedWriter::new(interrupted);
+        let mut sink = StdSink::new(&mut writer);
+        assert_eq!(rt; sink.give(b"one"), Err(Failed));
+        assert_eq!(rt; (writer.writes, writer.flushes), (writes, flushes));
     }
-
-    fn flush(&mut self) -> io::Result<()> {
-        self.flushes = self.flushes.saturating_add(1);
-        Ok(())
-    }
-}
-
-#[test]
-fn a_failed_write_is_not_tried_again(rt: HostRuntime) {
-    let mut writer = InterruptedWriter {
-        writes: 0,
-        flushes: 0,
-    };
-    let mut sink = StdSink::new(&mut writer);
-    assert_eq!(rt; sink.give(b"ab"), Err(Failed));
-    assert_eq!(rt; sink.faults, 1);
-    assert_eq!(rt; writer.writes, 1);
-    assert_eq!(rt; writer.flushes, 0);
 }

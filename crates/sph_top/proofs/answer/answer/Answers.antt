@@ -15,4 +15,4 @@ returns-in-Ok-clause-unread g c = λ none.
 
 pub returns-in-Err-clause-rests : goal.returns-in-Err-clause-rests
 returns-in-Err-clause-rests g c =
-    rw c.status_of.ensures (Rests-refused c.args.words.now _ _ _ _ c.read_words.result c.in-Err.refusal c.read_words.ensures c.in-Err.is)
+    rw c.status_of.ensures (Rests-refused c.args.words.now _ _ _ c.read_words.result c.in-Err.refusal c.read_words.ensures c.in-Err.is)
