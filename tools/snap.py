@@ -2,7 +2,10 @@
 """Looks at a stream of snapshots, as docs/FORMATS.md lays it out.
 
     python3 tools/snap.py info FILE                       prints a line a snapshot
-    python3 tools/snap.py csv FILE                        prints each row of each snapshot, below a header
+    python3 tools/snap.py csv FILE [--tick T] [--units DECK]
+                                                          prints each row of each snapshot, or of the one at T, below a header;
+                                                          with --units in the units that deck.py wrote at the head of the deck
+    python3 tools/snap.py energy FILE DECK                prints kinetic, potential and whole energy of each snapshot
     python3 tools/snap.py vtk FILE FOLDER                 writes a VTK file of points a snapshot, for ParaView
     python3 tools/snap.py plot FILE PICTURE [--tick T]    draws a snapshot, the last one or the one at T
 
@@ -11,7 +14,9 @@ is read; so what stood before a fault may have been printed or written. A fault 
 reader's word and the place, as `snap.py: short at 100`, and the status 1.
 """
 import argparse
+import math
 import os
+import re
 import struct
 import sys
 from collections import Counter, namedtuple
@@ -35,6 +40,9 @@ FIELDS = [
 
 # A snapshot: its tick and, for each field of its rows, the column of the numbers.
 Snapshot = namedtuple("Snapshot", "tick number mass h x y z qx qy qz rho bin")
+
+# What one length unit, mass unit and tick of a deck stand for, and its sound and shift.
+Units = namedtuple("Units", "length mass tick sound shift")
 
 
 class Refused(Exception):
@@ -118,10 +126,60 @@ def info(file, given):
 
 
 def csv(file, given):
-    print(",".join(Snapshot._fields))
-    for tick, *columns in snapshots(file):
-        line = ",".join([f"{tick}", *["%d"] * len(columns)])
-        print("\n".join(line % row for row in zip(*columns)), flush=True)
+    units = given.units and deck_units(given.units)
+    print("time,number,mass,h,x,y,z,vx,vy,vz,density,bin" if units else ",".join(Snapshot._fields))
+    found = False
+    for it in snapshots(file):
+        if given.tick in (None, it.tick):
+            found = True
+            tick, *columns = physical(it, units) if units else it
+            line = ",".join([f"{tick}", *["%s"] * len(columns)])
+            print("\n".join(line % row for row in zip(*columns)), flush=True)
+    if not found:
+        raise Refused(f"no snapshot at tick {given.tick}")
+
+
+def deck_units(path):
+    """What stands at the head of a deck: its units, its own ones where it has no line of them, its sound and its shift."""
+    with open(path, encoding="utf-8") as file:
+        head = re.split(r"(?m)^\s*(?:\[\[particle\]\]|particle\s*=)", file.read())[0]
+    line = re.search(r"(?m)^# units: side (\S+) mass (\S+) tick (\S+)$", head)
+    keys = [re.search(rf"(?m)^\s*{key}\s*=\s*(\d+)\s*(?:#.*)?$", head) for key in ("sound", "shift")]
+    if not all(keys):
+        raise Refused(f"{path} has no line of sound or of shift above its particles")
+    try:
+        side, mass, tick = map(float, line.groups()) if line else (float(SIDE), 1.0, 1.0)
+    except ValueError:
+        raise Refused(f"{path} has a line of units that has no numbers") from None
+    return Units(side / SIDE, mass, tick, *(int(it[1]) for it in keys))
+
+
+def physical(it, units):
+    """A snapshot in the units of its deck, with velocities in place of momenta."""
+    length, mass, tick, _, shift = units
+    lengths = [[value * length for value in column] for column in (it.h, it.x, it.y, it.z)]
+    velocities = [
+        [q / (m << shift) * length / tick for q, m in zip(column, it.mass)] for column in (it.qx, it.qy, it.qz)
+    ]
+    density = mass / length**3 / 2**54
+    masses, densities = [m * mass for m in it.mass], [rho * density for rho in it.rho]
+    return [it.tick * tick, it.number, masses, *lengths, *velocities, densities, it.bin]
+
+
+def energy(file, given):
+    """The kinetic energy, and the potential c^2 m ln(rho) of an isothermal gas, 0 in the first snapshot."""
+    units = deck_units(given.deck)
+    speed2 = units.sound * 2.0 ** (23 - units.shift) * (units.length / units.tick) ** 2
+    first = whole = None
+    for it in snapshots(file):
+        time, _, masses, _, _, _, _, vx, vy, vz, densities, _ = physical(it, units)
+        kinetic = sum(m * (a * a + b * b + c * c) for m, a, b, c in zip(masses, vx, vy, vz)) / 2
+        potential = speed2 * sum(m * math.log(rho) for m, rho in zip(masses, densities))
+        first = potential if first is None else first
+        potential -= first
+        whole = kinetic + potential if whole is None else whole
+        change = kinetic + potential - whole
+        print(f"time {time:.6g} kinetic {kinetic:.6e} potential {potential:.6e} change {change:.3e}", flush=True)
 
 
 def vtk(file, given):
@@ -202,13 +260,19 @@ def words():
     jobs = options.add_subparsers(required=True, metavar="JOB")
     for job, says in [
         (info, "a line a snapshot: tick, particles, least and greatest density, total momentum, particles in each bin"),
-        (csv, "each row of each snapshot as a line of whole numbers, below a header"),
+        (csv, "each row of each snapshot as a line, below a header: of whole numbers, or with --units in a deck's units"),
+        (energy, "kinetic and isothermal potential energy of each snapshot, and how far their sum is from the first"),
         (vtk, "a legacy VTK file of points a snapshot, FOLDER/snap_0000.vtk and so on, for ParaView"),
         (plot, "the particles seen along z, coloured by density, and a histogram of densities, by matplotlib"),
     ]:
         parser = jobs.add_parser(job.__name__, help=says, description=says, epilog=options.epilog)
         parser.set_defaults(job=job)
         parser.add_argument("file", metavar="FILE", help="a path, or - for standard input")
+        if job is csv:
+            parser.add_argument("--tick", type=int, metavar="T", help="the snapshot at this tick alone")
+            parser.add_argument("--units", metavar="DECK", help="a deck that deck.py made; velocities in place of momenta")
+        if job is energy:
+            parser.add_argument("deck", metavar="DECK", help="whose stream FILE is")
         if job is vtk:
             parser.add_argument("folder", metavar="FOLDER", help="made where it isn't there; files of these names are replaced")
         if job is plot:

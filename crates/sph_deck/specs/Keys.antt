@@ -10,16 +10,19 @@ pub record Entry : Type 0 where
   pub name : List ℕ
   pub range : Option (ℤ × ℤ)
 
+-- an entry from its parts
 abbrev pub entry : ℕ → List ℕ → Option (ℤ × ℤ) → Entry
 entry number name range = record { number = number; name = name; range = range }
 
--- the ranges of whole numbers, of a coordinate and of a component of a momentum
+-- the range of a whole number
 abbrev pub from_to : ℕ → ℕ → Option (ℤ × ℤ)
 from_to least most = Some (pos least, pos most)
 
+-- the range of a coordinate, in length units
 abbrev pub coordinate : Option (ℤ × ℤ)
 coordinate = from_to 0 (box_side - 1)
 
+-- the range of a component of a momentum
 abbrev pub momentum : Option (ℤ × ℤ)
 momentum = Some (neg_ℤ (pos 9223372036854775807), pos 9223372036854775807)
 
@@ -45,12 +48,15 @@ entry_of Px = entry 17 (codes "px") momentum
 entry_of Py = entry 18 (codes "py") momentum
 entry_of Pz = entry 19 (codes "pz") momentum
 
+-- a key's number
 abbrev pub number_of : Key → ℕ
 number_of key = (entry_of key).number
 
+-- a key's name
 abbrev pub name_of : Key → List ℕ
 name_of key = (entry_of key).name
 
+-- the integers that a key takes
 abbrev pub range_of : Key → Option (ℤ × ℤ)
 range_of key = (entry_of key).range
 
