@@ -84,7 +84,7 @@ function that `run_bytes` goes through. What the other jobs write stands in the 
         "The job `generate`: a lattice",
         "The deck that is drawn from a side and a seed, as numbers and as text.",
         (),
-        "sph_lattice sph_deck/specs/Lattice.antt sph_deck/specs/LatticeText.antt",
+        "sph_lattice",
     ),
     Chapter("The job `sample`: a summary", "The lines of sums that stand for a stream.", (), "sph_run sph_report"),
     Chapter(

@@ -4,11 +4,12 @@ ghost use Rattle.std.specs.Prelude.{◌≡◌, ◌≤◌, ◌∷◌, [], false, 
 mod free;
 mod gates;
 
+use crate::graph::{close_run, man};
+use crate::run_graph;
 use crate::tests::free::{FreeTasks, Tally, tallies};
-use crate::tests::gates::{BeforeGate, OrderGate};
-use crate::{finish_rest, run_graph};
+use crate::tests::gates::BeforeGate;
 use qs_family::{CELLS, Family, Marks, THREE};
-use qs_gate::{CountGate, Gate};
+use qs_gate::{CountGate, CrowdGate, Gate, LogGate, Pass};
 use qs_table::ResTable;
 use std::alloc::{AllocError, Global};
 use std::test::Fail;
@@ -44,12 +45,34 @@ fn all_done() -> [Marks; 2] {
     [Marks::of(true, true, true), Marks::of(false, false, true)]
 }
 
+/// The passes of a worker, with these tasks.
+fn passes(worker: u32, tasks: [u32; 3]) -> [Pass; 3] {
+    let [first, second, third] = tasks;
+    [
+        Pass {
+            worker,
+            task: first,
+        },
+        Pass {
+            worker,
+            task: second,
+        },
+        Pass {
+            worker,
+            task: third,
+        },
+    ]
+}
+
 #[test]
 fn tasks_in_a_row_are_done_in_their_order(rt: HostRuntime) -> Result<(), Fail> {
-    let gate = OrderGate::new(0, [0, 1, 2]);
+    let gate = LogGate::new(rt.alloc(), 4)?;
     let blocks = ran(&rt, rt.alloc(), &THREE, 1, &gate)?;
     assert_eq!(rt; blocks.as_slice(), all_done().as_slice());
-    assert_eq!(rt; gate.counts(), (3, 0));
+    assert_eq!(rt;
+        gate.passes(rt.alloc())?.as_slice(),
+        passes(0, [0, 1, 2]).as_slice()
+    );
     Ok(())
 }
 
@@ -101,9 +124,23 @@ fn free_tasks_are_done_once(rt: HostRuntime) -> Result<(), Fail> {
 
 #[test]
 fn one_worker_does_the_heavier_tasks_first(rt: HostRuntime) -> Result<(), Fail> {
-    let gate = OrderGate::new(0, [1, 0, 2]);
+    let gate = LogGate::new(rt.alloc(), 4)?;
     let _blocks = ran_free(&rt, rt.alloc(), &FreeTasks::new(), 1, &gate)?;
-    assert_eq!(rt; gate.counts(), (3, 0));
+    assert_eq!(rt;
+        gate.passes(rt.alloc())?.as_slice(),
+        passes(0, [1, 0, 2]).as_slice()
+    );
+    Ok(())
+}
+
+/// Each of three workers waits with its task until the others have theirs, so each does one and none is left.
+#[test]
+fn three_workers_are_at_work_at_once(rt: HostRuntime) -> Result<(), Fail> {
+    let work = FreeTasks::new();
+    let gate = CrowdGate::new(3, 10_000_000);
+    let _blocks = ran_free(&rt, rt.alloc(), &work, 3, &gate)?;
+    assert!(rt; gate.met());
+    assert_eq!(rt; work.done(), 3);
     Ok(())
 }
 
@@ -118,39 +155,26 @@ fn the_gate_is_passed_before_the_task_is_done(rt: HostRuntime) -> Result<(), Fai
     Ok(())
 }
 
-/// What is done of a table for two seats that is closed before any task was claimed, with the number behind theirs.
-fn finished<G: Gate>(alloc: Global, gate: &G) -> Result<Vec<Marks>, AllocError> {
-    let blocks = fresh(alloc)?;
-    let (table, seats) = ResTable::new(alloc, &THREE, blocks, 2).map_err(|_| AllocError)?;
-    Ok(finish_rest(&THREE, table.close(seats), 2, gate))
-}
-
-/// The same of the free tasks.
-fn finished_free<G: Gate>(
-    alloc: Global,
-    work: &FreeTasks,
-    gate: &G,
-) -> Result<Vec<Tally>, AllocError> {
+/// What is done of the free tasks where neither of two workers worked.
+fn left_over<G: Gate>(alloc: Global, work: &FreeTasks, gate: &G) -> Result<Vec<Tally>, AllocError> {
     let blocks = tallies(alloc, 0)?;
     let (table, seats) = ResTable::new(alloc, work, blocks, 2).map_err(|_| AllocError)?;
-    Ok(finish_rest(work, table.close(seats), 2, gate))
+    let Ok((_queues, crew)) = man(alloc, work, &table, seats) else {
+        return Err(AllocError);
+    };
+    Ok(close_run(work, table, crew, gate))
 }
 
+/// By number and not by weight, with the number behind the workers'.
 #[test]
 fn what_no_worker_claimed_is_done_in_order(rt: HostRuntime) -> Result<(), Fail> {
-    let gate = OrderGate::new(2, [0, 1, 2]);
-    let blocks = finished(rt.alloc(), &gate)?;
-    assert_eq!(rt; blocks.as_slice(), all_done().as_slice());
-    assert_eq!(rt; gate.counts(), (3, 0));
-    Ok(())
-}
-
-#[test]
-fn the_rest_is_done_by_number_and_not_by_weight(rt: HostRuntime) -> Result<(), Fail> {
-    let gate = OrderGate::new(2, [0, 1, 2]);
-    let blocks = finished_free(rt.alloc(), &FreeTasks::new(), &gate)?;
+    let gate = LogGate::new(rt.alloc(), 4)?;
+    let blocks = left_over(rt.alloc(), &FreeTasks::new(), &gate)?;
     assert_eq!(rt; blocks.as_slice(), tallies(rt.alloc(), 1)?.as_slice());
-    assert_eq!(rt; gate.counts(), (3, 0));
+    assert_eq!(rt;
+        gate.passes(rt.alloc())?.as_slice(),
+        passes(2, [0, 1, 2]).as_slice()
+    );
     Ok(())
 }
 
@@ -158,7 +182,7 @@ fn the_rest_is_done_by_number_and_not_by_weight(rt: HostRuntime) -> Result<(), F
 fn the_rest_passes_the_gate_before_each_task(rt: HostRuntime) -> Result<(), Fail> {
     let work = FreeTasks::new();
     let gate = BeforeGate::new(&work);
-    let _blocks = finished_free(rt.alloc(), &work, &gate)?;
+    let _blocks = left_over(rt.alloc(), &work, &gate)?;
     assert_eq!(rt; gate.counts(), (3, 0));
     Ok(())
 }

@@ -1,47 +1,8 @@
-//! Gates that see in which order tasks are passed, and by which worker, and how much was done before.
+//! A gate that sees how much was done before each pass.
 
 use crate::tests::free::FreeTasks;
 use qs_gate::Gate;
 use std::sync::atomic::{AtomicU64, Ordering};
-
-/// A gate that wants three tasks in an order, all from one worker. It counts its passes, and those with another task or
-/// worker than it wanted.
-#[derive(Drop)]
-pub(crate) struct OrderGate {
-    worker: u32,
-    tasks: [u32; 3],
-    passes: AtomicU64,
-    others: AtomicU64,
-}
-
-impl OrderGate {
-    pub(crate) fn new(worker: u32, tasks: [u32; 3]) -> OrderGate {
-        OrderGate {
-            worker,
-            tasks,
-            passes: AtomicU64::new(0),
-            others: AtomicU64::new(0),
-        }
-    }
-
-    /// How often it was passed, and how often otherwise than it wanted.
-    pub(crate) fn counts(&self) -> (u64, u64) {
-        (
-            self.passes.load(Ordering::SeqCst),
-            self.others.load(Ordering::SeqCst),
-        )
-    }
-}
-
-impl Gate for OrderGate {
-    fn pass(&self, worker: u32, task: u32) {
-        let passes = self.passes.fetch_add(1, Ordering::SeqCst);
-        let wanted = self.tasks.get(passes as usize).copied();
-        if worker != self.worker || wanted != Some(task) {
-            self.others.fetch_add(1, Ordering::SeqCst);
-        }
-    }
-}
 
 /// A gate that wants no more tasks done at a pass than there were passes before. It counts its passes, and those at which
 /// more were done.
