@@ -142,15 +142,20 @@ fn several_workers_pass_as_often(rt: HostRuntime) -> Result<(), Fail> {
     Ok(())
 }
 
-/// Two workers are inside tasks at once.
+/// As many workers as are asked for are inside tasks at once.
 #[test]
-fn two_workers_meet(rt: HostRuntime) -> Result<(), Fail> {
+fn workers_meet(rt: HostRuntime) -> Result<(), Fail> {
     let alloc = rt.alloc();
     let text = generated(&rt, alloc, "generate 8 7")?;
-    let gate = CrowdGate::new(2, 10_000_000);
-    let run = do_job_past(&rt, alloc, "run --workers 2", text.as_str(), &gate)?;
-    assert_eq!(rt; run.status, Status::Done);
-    assert!(rt; gate.met());
+    for (job, text, workers) in [
+        ("run --workers 3", text.as_str(), 3),
+        ("sample 8 7 --workers 2", "", 2),
+    ] {
+        let gate = CrowdGate::new(workers, 10_000_000);
+        let run = do_job_past(&rt, alloc, job, text, &gate)?;
+        assert_eq!(rt; run.status, Status::Done, "{job}");
+        assert!(rt; gate.met(), "{job}");
+    }
     Ok(())
 }
 
