@@ -61,14 +61,14 @@ CHAPTERS = [
     Chapter(
         "The headline",
         """All on which the headline stands, from the kernel of two particles to the stream of a deck. It takes this chapter alone
-to read it: no definition behind this chapter stands behind the headline.""",
+to read it: the headline stands on no definition of a later chapter.""",
         ("sph_top/src/bytes.rt run_bytes",),
         "",
     ),
     Chapter(
         "Devices and answers",
         """The program's own call, `swiftq`, which reads words and a source, and writes to two sinks. Its job `run` goes through the
-function that `run_bytes` goes through. What the other jobs write stands in the chapters behind this one.
+function that `run_bytes` goes through. What the other jobs write stands in the chapters after this one.
 
 """ + TOLD,
         ("sph_top/src/answer.rt swiftq",),
@@ -90,7 +90,8 @@ function that `run_bytes` goes through. What the other jobs write stands in the 
     Chapter(
         "Adapters, exit status and laws",
         """The adapters that `main` puts over std's reader and writer, whose `R.remaining` and `W.contents` are the bytes that std's
-own contracts tell of them. For standard input and output std tells none: there the clauses on bytes say less. Then the
+own contracts tell of them. For standard input and output std tells none, and there no clause says anything of the bytes: what
+carries over is that `swiftq` is one function for all devices, which can't tell one from another. Then the
 process's exit status, and laws of every run of an accepted deck, each the contract of a function that does nothing.""",
         (
             "sph_edge/src/adapters.rt StdSource",
@@ -112,24 +113,52 @@ TITLE = """# What the theorem says
 
 <!-- Made by tools/theorem.py: after a change of a definition run `python3 tools/theorem.py --write`. -->
 
+`swiftq` moves the particles of a gas by smoothed-particle hydrodynamics in a periodic box, in whole numbers. A *deck* is its
+input: a TOML text of parameters and particles. A *stream* is its output: snapshots of all particles at some of the run's
+*ticks*, the steps of its clock. Each particle stands in a *time bin*, which says at which ticks it is *due*: then its density,
+its *ghost* (pressure over density squared) and its force are summed up, and it is *kicked*, which changes its momentum.
+
 The headline is one clause of the call `run_bytes`, and this is what it says:
 """
-PREFACE = """Behind it stands all that one has to read to know what its words mean. Then comes the contract of the program's own call,
-and what else that call speaks of: {definitions} definitions in {files} files of {crates} crates, {lines} lines.
+PREFACE = """After it stands all that one has to read to know what its words mean. Then comes the contract of the program's own call,
+and what else that call speaks of: {definitions} definitions in {files} files of {crates} crates, {lines} lines of definitions.
 What none of them cites can't change what the clauses say.
 
 **Every interleaving.** No clause names a schedule, and so each speaks of all of them. A clause is proved for each answer
 that the call can give: the code that starts the threads is given no fact on which of them goes first, or how far one has
-come when another begins. Between any two steps of one thread the proof takes the memory that threads share as any that
-their rule allows (`Shows` in `crates/qs_table`), whatever the others did meanwhile. What is proved of the answer then holds
-whatever happened, and since neither the number of workers nor their order stands in it, they can't change it.
+come when another begins. What threads share are words, each read and written in one step, in one order that all threads see, and blocks, which one
+thread has at a time.
+Between any two steps of one thread the proof takes these words as any that a rule allows, whatever the others
+did meanwhile. That rule is part of the proof and of no clause. What is proved of the answer then holds whatever happened, and since neither
+the number of workers nor their order stands in it, they can't change it.
 
 **Nothing is required.** `run_bytes` and `swiftq` have no `requires`: each clause holds of any bytes, words, source, sinks
-and number of workers. Both always return. That ample memory isn't refused no clause can say: tests show it.
+and number of workers. The toolchain proves of both that they return, and that no number overflows and no index is out of range.
+
+**What no clause says.** `NoMemory` may be answered at any time: a call that always did so would meet every clause, and tests
+alone show that ample memory is never refused. Nor does a clause say how the answer is found: that threads share the work by
+a graph of tasks is tested, and how fast it is measured. That these sums are good physics is no clause either: the definitions
+say which sums they are.
+
+**What is trusted** beside this page: the toolchain, which checks the proofs and builds the program, and its definitions in
+the last list; that the crate `toml` reads TOML; `main`, which hands the words, the standard streams and the status over; the
+system below. [README.md](../README.md#what-is-trusted) has the list.
 
 **How to read.** Take the clauses first, each with the comment over it, and then a chapter from the top down: a name that
-you meet is defined above, or in a chapter that its head names, or is one of the toolchain's, which the last list has. A
-name over a definition is a link to its place in the sources. [MODEL.md](MODEL.md) and [FORMATS.md](FORMATS.md) say the same in words.
+you meet is defined above, or in another chapter, or is one of the toolchain's, which the last list has. A name over a
+definition is a link to its place in the sources. [MODEL.md](MODEL.md) and [FORMATS.md](FORMATS.md) say the same in words,
+and MODEL.md has the scale of each number.
+
+- `(x : A) → P` is "for every x of A, P"; `(x : A) × P` is "there is an x of A with P"; `P → Q` "if P then Q", `P × Q` "P and
+  Q", `P ⊎ Q` "P or Q", `P → ⊥` "not P"; `⊤` is true and `≡` is equality. A `record` of statements, which has the type
+  `Type 0`, holds where all its fields do. `λ x. e` is the function that gives e for x; `f a b` is f of a and b.
+- Numbers are whole and don't wrap: ℕ from 0 on, where a - b is 0 if b is greater, and ℤ. In a clause a number of the program
+  is the whole number that it stands for, and an array, a slice or a vector is the list of its elements. `slice_index xs i` is
+  the element at i, and 0 past the end; `codes "abc"` are the bytes of a text.
+- `x.old` and `x.new` are a borrowed value before and after the call, `x.now` one that the call only reads, `result` the answer.
+  `IfOk`, `OnOk`, `OnErr` and `MatchResult` say what holds of the value of an answer or of its error.
+- The word `ghost` before a member of a Rust item says that it stands for the contract alone. `abbrev` and `unfoldable` are
+  hints to the checker and change no meaning. Names are a file's own: two files may each have a `number_of`.
 """
 
 NAME = r'[^\s(){}.;,@"«»]+'

@@ -15,7 +15,8 @@ AnswersText text (Ok stream) = (deck : Deck) × IsAcceptedDeck text deck × (str
 AnswersText text (Err (DeckRefused fault)) = IsFirstFault text fault
 AnswersText text (Err NoMemory) = ⊤
 
--- an accepted deck's text gives the stream of that deck, and any other its first fault, unless memory ran out
+-- An accepted deck's text gives the stream of that deck, and any other its first fault, unless memory ran out. The third part
+-- says it from the answer's side: which of the two a text is, the answer decides.
 pub record Headline (text : List ℕ) (answer : Result (Vec ℕ Global) RunRefusal) : Type 0 where
   pub accepted : (deck : Deck) → IsAcceptedDeck text deck → MatchResult answer (λ stream. stream.items ≡ deck_stream deck) (λ refusal. refusal ≡ NoMemory)
   pub refused : (fault : DeckFault) → IsFirstFault text fault → (answer ≡ Err (DeckRefused fault)) ⊎ (answer ≡ Err NoMemory)

@@ -19,21 +19,21 @@ pub enum RunRefusal {
     NoMemory,
 }
 
-/// Runs a deck's text through the graph of its tasks, as the job `run` does, and gives the stream. Of any number of
-/// workers asked for, 1 to 64 are taken.
+/// Runs a deck's text and gives the stream, as the job `run` does, by its graph of tasks, of which no clause speaks. No
+/// workers count as 1, and more than 64 as 64.
 pub fn run_bytes<R: Threads + Sync>(
     rt: &R,
     alloc: Global,
-    deck: &[u8],
+    text: &[u8],
     workers: u32,
 ) -> Result<Vec<u8>, RunRefusal>
-    ensures headline { Headline deck.now result }
+    ensures headline { Headline text.now result }
 {
     let job = Job::Run {
         workers: workers.clamp(1, 64),
     };
     let mut stream = GrowingSink::new(alloc);
-    match do_on_text(rt, alloc, job, deck, &mut stream, &NoGate) {
+    match do_on_text(rt, alloc, job, text, &mut stream, &NoGate) {
         Status::Done => Ok(stream.into_held()),
         Status::DeckRefused(fault) => Err(RunRefusal::DeckRefused(fault)),
 
