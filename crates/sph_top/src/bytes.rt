@@ -3,7 +3,7 @@ ghost use Rattle.sph_top.specs.Headline.{Headline};
 
 use crate::job::do_on_text;
 use crate::status::Status;
-use qs_gate::NoGate;
+use qs_gate::{Gate, NoGate};
 use sph_deck::DeckFault;
 use sph_edge::GrowingSink;
 use sph_words::Job;
@@ -19,8 +19,8 @@ pub enum RunRefusal {
     NoMemory,
 }
 
-/// Runs a deck's text and gives the stream, as the job `run` does, by its graph of tasks, of which no clause speaks. No
-/// workers count as 1, and more than 64 as 64.
+/// Runs a deck's text and gives the stream, as the job `run` does, by its graph of tasks, of which no clause speaks. For 0
+/// workers 1 is taken, and for more than 64 it is 64.
 pub fn run_bytes<R: Threads + Sync>(
     rt: &R,
     alloc: Global,
@@ -29,11 +29,24 @@ pub fn run_bytes<R: Threads + Sync>(
 ) -> Result<Vec<u8>, RunRefusal>
     ensures headline { Headline text.now result }
 {
+    run_bytes_past(rt, alloc, text, workers, &NoGate)
+}
+
+/// The same, past a gate.
+pub(crate) fn run_bytes_past<R: Threads + Sync, G: Gate>(
+    rt: &R,
+    alloc: Global,
+    text: &[u8],
+    workers: u32,
+    gate: &G,
+) -> Result<Vec<u8>, RunRefusal>
+    ensures headline { Headline text.now result }
+{
     let job = Job::Run {
         workers: workers.clamp(1, 64),
     };
     let mut stream = GrowingSink::new(alloc);
-    match do_on_text(rt, alloc, job, text, &mut stream, &NoGate) {
+    match do_on_text(rt, alloc, job, text, &mut stream, gate) {
         Status::Done => Ok(stream.into_held()),
         Status::DeckRefused(fault) => Err(RunRefusal::DeckRefused(fault)),
 

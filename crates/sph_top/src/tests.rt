@@ -1,6 +1,9 @@
 //! A run from bytes to bytes.
+use crate::bytes::run_bytes_past;
 use crate::{RunRefusal, run_bytes};
+use qs_gate::CrowdGate;
 use sph_deck::DeckFault;
+use sph_lattice::lattice;
 use std::test::Fail;
 
 /// One particle of mass 1 and h 131072 at the origin, at rest, and one snapshot.
@@ -30,5 +33,17 @@ fn runs_bytes_by_any_number_of_workers(rt: HostRuntime) -> Result<(), Fail> {
     }
     let refusal = run_bytes(&rt, alloc, b"a = ", 1).err();
     assert_eq!(rt; refusal, Some(RunRefusal::DeckRefused(DeckFault::NotToml)));
+    Ok(())
+}
+
+/// No contract can say that it goes by the graph, nor by how many workers.
+#[test]
+fn runs_bytes_by_workers_that_meet(rt: HostRuntime) -> Result<(), Fail> {
+    let alloc = rt.alloc();
+    let text = lattice(alloc, 8, 7)?;
+    let gate = CrowdGate::new(3, 10_000_000);
+    let stream = run_bytes_past(&rt, alloc, text.as_slice(), 3, &gate);
+    assert!(rt; stream.is_ok());
+    assert!(rt; gate.met());
     Ok(())
 }

@@ -148,6 +148,7 @@ fn workers_meet(rt: HostRuntime) -> Result<(), Fail> {
     let alloc = rt.alloc();
     let text = generated(&rt, alloc, "generate 8 7")?;
     for (job, text, workers) in [
+        ("run --workers 2", text.as_str(), 2),
         ("run --workers 3", text.as_str(), 3),
         ("sample 8 7 --workers 2", "", 2),
     ] {

@@ -23,6 +23,11 @@ fn pair(first: u32, second: u32) -> Span {
 fn needs_a_due_point(rt: HostRuntime) -> Result<(), AllocError> {
     let points = [[1000, 0, 0], [1512, 0, 0]];
     let tree = Tree::build(rt.alloc(), &points, &[1024; 2], 1)?;
+    let all = cover(rt.alloc(), &tree, &[true; 2], NEAR)?;
+    assert_eq!(rt;
+        all.as_slice(),
+        [single(10), single(11), pair(10, 11)].as_slice()
+    );
     assert!(rt; cover(rt.alloc(), &tree, &[false; 2], NEAR)?.is_empty());
     let spans = cover(rt.alloc(), &tree, &[false, true], NEAR)?;
     assert_eq!(rt; spans.as_slice(), [single(11), pair(10, 11)].as_slice());
@@ -72,11 +77,24 @@ fn looks_further_by_the_slack(rt: HostRuntime) -> Result<(), AllocError> {
     let tree = Tree::build(rt.alloc(), &points, &[1024; 3], 1)?;
     // The cells 10 and 12 are 1025 apart.
     let spans = cover(rt.alloc(), &tree, &[true; 3], NEAR)?;
-    assert_eq!(rt; spans.len(), 5);
-    assert!(rt; !spans.contains(&pair(10, 12)));
+    let want = [
+        single(10),
+        single(11),
+        pair(10, 11),
+        single(12),
+        pair(11, 12),
+    ];
+    assert_eq!(rt; spans.as_slice(), want.as_slice());
     let limits = Limits { pairs: 1, slack: 1 };
     let spans = cover(rt.alloc(), &tree, &[true; 3], limits)?;
-    assert_eq!(rt; spans.len(), 6);
-    assert!(rt; spans.contains(&pair(10, 12)));
+    let want = [
+        single(10),
+        single(11),
+        pair(10, 11),
+        single(12),
+        pair(10, 12),
+        pair(11, 12),
+    ];
+    assert_eq!(rt; spans.as_slice(), want.as_slice());
     Ok(())
 }

@@ -106,6 +106,7 @@ fn rounds_a_drift_down(rt: HostRuntime) {
     assert_eq!(rt; after_a_tick(1512, 659_298_496_512, 20), [2126, 0, 0]);
     assert_eq!(rt; after_a_tick(1512, 1_211_960_844_288, 22), [1794, 0, 0]);
     assert_eq!(rt; after_a_tick(1_048_575, 659_298_496_512, 20), [613, 0, 0]);
+    assert_eq!(rt; after_a_tick(100, -659_298_496_512, 20), [1_048_061, 0, 0]);
 }
 
 #[test]

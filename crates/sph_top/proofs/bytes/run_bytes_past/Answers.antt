@@ -1,7 +1,7 @@
 use Rattle.std.proofs.Common.{Ok, Err}
 use Rattle.sph_top.specs.declared.bytes.RunRefusal.TheVariants.{DeckRefused}
 use Rattle.sph_top.proofs.Headlines.{Headline-answers, stream_held}
-use Rattle.sph_top.proofs.bytes.run_bytes.Goals as goal
+use Rattle.sph_top.proofs.bytes.run_bytes_past.Goals as goal
 
 pub returns-in-Done : goal.returns-in-Done
 returns-in-Done g c = record {
