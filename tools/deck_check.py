@@ -1,6 +1,7 @@
 #!/usr/bin/env python3
 """Checks tools/deck.py: python3 tools/deck_check.py PROGRAM. Each maker's small deck is accepted, and each fault of a table
 gets its line. Each difference is printed, and then the status is 1."""
+import re
 import subprocess
 import sys
 from pathlib import Path
@@ -8,6 +9,7 @@ from pathlib import Path
 TOOL = [sys.executable, Path(__file__).resolve().parent / "deck.py"]
 TABLE = ["from-csv", "-", "--side", "1", "--sound-speed", "1"]
 HEAD = "mass,h,x,y,z,vx,vy,vz\n"
+SUMS = re.compile(rf"deck\.py: sums may reach \d+, and less than {2**96} is needed\n")
 
 FAULTS = [
     ("", "missing column mass"),
@@ -50,6 +52,10 @@ def main():
         line = subprocess.run([program, "check"], input=deck, capture_output=True, text=True).stdout
         if not line.startswith("accepted: particles " + (f"{count} " if count else "")):
             failed.append(f"the deck of {words}: {line}")
+    heavy = HEAD + "65536,.001,0,0,0,0,0,0\n1,.1,0,0,0,0,0,0\n"
+    done = make([*TABLE, "--mass", "1", "--tick", "0.01", "--ticks", "65536"], heavy)
+    if not SUMS.fullmatch(done.stderr) or done.stdout or done.returncode != 1:
+        failed.append(f"wanted the sums refused, but got {done.stderr}")
     if "x = 262144, y = 786432, z = 0," not in make(TABLE, good).stdout:
         failed.append("places are not wrapped")
     print("\n".join(failed), file=sys.stderr, end="\n" if failed else "")

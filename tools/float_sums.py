@@ -1,10 +1,15 @@
 #!/usr/bin/env python3
 """The textbook's sums in double precision, held against the program's.
 
-    python3 tools/float_sums.py sums FILE DECK             densities of each snapshot of DECK's stream FILE, and the forces
-                                                           that its momenta tell of
-    python3 tools/float_sums.py wave DECK [--round PART]   runs a deck of `deck.py wave` by a leapfrog in double precision;
-                                                           PART is what is rounded down as by the program: root, or all
+    python3 tools/float_sums.py sums FILE DECK [--tick T] [--round PART]
+                                                         densities of each snapshot of DECK's stream FILE, or of the ones from
+                                                         T on, and the forces that its momenta tell of
+    python3 tools/float_sums.py wave DECK [--ticks N] [--round PART]
+                                                         runs a deck of `deck.py wave` by a leapfrog in double precision
+    python3 tools/float_sums.py lattice H ..             the period of a long wave on a cubic lattice over the known one, for a
+                                                         smoothing length of H spacings, by the sums alone
+
+PART is what is rounded down as by the program: root, or all, where no difference may be left.
 
 A force stands in no stream. Where a step of a particle leads from one snapshot to the next, its momentum changes by the step
 times the sum of its forces at the two, which is compared. FILE is a path, or - for standard input. Needs Python alone.
@@ -98,8 +103,10 @@ def sums(given):
     speed2, before = units.sound * 2.0 ** (23 - units.shift), None
     with open(0 if given.file == "-" else given.file, "rb") as file:
         for it in snap.snapshots(file):
-            rho, forces = sums_of(it.mass, it.h, [*zip(it.x, it.y, it.z)], units.sound)
-            off = [mine / own - 1 for mine, own in zip(it.rho, rho)]
+            if it.tick < given.tick:
+                continue
+            rho, forces = sums_of(it.mass, it.h, [*zip(it.x, it.y, it.z)], units.sound, given.round)
+            off = [(mine - own) / own for mine, own in zip(it.rho, rho)]
             print(f"tick {it.tick} densities differ by at most {worst(off):.3g}, mean {mean(off):.3g}", end="")
             potential = sum(m * math.log(own) for m, own in zip(it.mass, rho)) / sum(it.mass)
             theirs = sum(m * math.log(own) for m, own in zip(it.mass, it.rho)) / sum(it.mass)
@@ -173,18 +180,36 @@ def wave(given):
         print(f"known period {period:.3f}, found {found:.3f}, ratio {found / period:.4f}")
 
 
+def lattice(given):
+    """The energy c^2 ln(rho) of a particle turns by `stiff` as the lattice is stretched along x; the gas itself has c^2."""
+    for h in given.lengths:
+        near = [*product(range(-math.ceil(h) - 1, math.ceil(h) + 2), repeat=3)]
+
+        def energy(stretch):
+            parts = (math.sqrt((a * stretch) ** 2 + b * b + c * c) / h for a, b, c in near)
+            return math.log(sum(kernel(s) for s in parts if s < 1))
+
+        stiff = (energy(1.001) - 2 * energy(1) + energy(0.999)) / 1e-6
+        print(f"h {h:g} stiffness {stiff:.4f} period over the known one {stiff**-0.5:.4f}")
+
+
 def words():
     options = argparse.ArgumentParser(prog="float_sums.py", description="The textbook's sums in double precision.")
     jobs = options.add_subparsers(required=True, metavar="JOB")
+    parser = jobs.add_parser("lattice")
+    parser.set_defaults(job=lattice)
+    parser.add_argument("lengths", metavar="H", nargs="+", type=float, help="in spacings, above 1")
     for job in (sums, wave):
         parser = jobs.add_parser(job.__name__)
         parser.set_defaults(job=job)
         if job is sums:
             parser.add_argument("file", metavar="FILE", help="a stream: a path, or - for standard input")
         parser.add_argument("deck", metavar="DECK", help="a deck that deck.py made")
-        if job is wave:
-            parser.add_argument("--ticks", type=int, default=48)
-            parser.add_argument("--round", choices=["root", "all"], help="what is rounded down as by the program")
+        if job is sums:
+            parser.add_argument("--tick", type=int, default=0, metavar="T", help="the first snapshot")
+        else:
+            parser.add_argument("--ticks", type=int, default=48, metavar="N")
+        parser.add_argument("--round", choices=["root", "all"], help="what is rounded down as by the program")
     return options.parse_args()
 
 
