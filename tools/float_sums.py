@@ -129,7 +129,7 @@ def compare(first, last, before, after):
                 off.append(late[k] - early[k] - wanted)
                 sizes.append(wanted)
     if off:
-        size = root_mean_square(sizes)
+        size = root_mean_square(sizes) or 1  # on a lattice at rest there is no force
         line = f"greatest {worst(off) / size:.3g}, root mean square {root_mean_square(off) / size:.3g}"
         print(f"  forces at {first.tick} and {last.tick}, {len(off)} numbers: difference in mean sizes of a force: {line}")
 
@@ -156,7 +156,10 @@ def wave(given):
         text = file.read()
     names = ["mass", "h", "x", "y", "z", "px", "py", "pz"]
     row = r"\{ " + ", ".join(rf"{name} = (-?\d+)" for name in names) + r" \}"
-    masses, lengths, x, y, z, *momenta = zip(*(map(int, it) for it in re.findall(row, text)))
+    found = re.findall(row, text)
+    if not found:
+        raise snap.Refused(f"{given.deck} has no particles as deck.py writes them")
+    masses, lengths, x, y, z, *momenta = zip(*(map(int, it) for it in found))
     places, momenta = [*zip(x, y, z)], [*map(list, zip(*momenta))]
     ahead, zeros, last = [it[:] for it in momenta], [], None
     for tick in range(given.ticks + 1):
