@@ -10,7 +10,8 @@ import argparse
 import math
 import sys
 
-import snap
+sys.dont_write_bytecode = True  # no folder is left beside the tools
+import snap  # noqa: E402
 
 WIDE, HIGH, EDGE = 640, 260, 50
 

@@ -20,7 +20,8 @@ import re
 import sys
 from itertools import product
 
-import snap
+sys.dont_write_bytecode = True  # no folder is left beside the tools
+import snap  # noqa: E402
 
 CONSTANT = 8 / math.pi
 HALF, SIDE = snap.SIDE // 2, snap.SIDE
