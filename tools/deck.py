@@ -1,10 +1,10 @@
 #!/usr/bin/env python3
 """Makes decks: from a table of particles, and of three known problems.
 
-    python3 tools/deck.py from-csv FILE --side L --sound-speed C > my.toml
-    python3 tools/deck.py wave 16 > wave.toml        a standing sound wave along x
-    python3 tools/deck.py shock 32 > shock.toml      two densities side by side
-    python3 tools/deck.py blast 24 > blast.toml      a dense ball that expands
+    python3 tools/deck.py from-csv FILE --side L --sound-speed C --out my.toml
+    python3 tools/deck.py wave 16 --out wave.toml        a standing sound wave along x
+    python3 tools/deck.py shock 32 --out shock.toml      two densities side by side
+    python3 tools/deck.py blast 24 --out blast.toml      a dense ball that expands
 
 The deck goes to standard output, or whole to the file of --out. What it stands for and what rounding cost is said on standard
 error. What doesn't fit a deck is refused by one line, with the status 1, and nothing is written. docs/UNITS.md has the units.

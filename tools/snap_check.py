@@ -4,7 +4,7 @@
 - What `info` prints of each example's stream is examples/NAME.info, whose numbers were worked out from the model.
 - A stream of one particle that is cut or changed gets the fault and the place that a reader of streams gives it, and so do
   other streams; where two places fail, the first one is named. Numbers at the ends of their ranges are read.
-- `csv` and `vtk` give worked texts and files; what `plot` refuses, it refuses by its line.
+- `csv`, `energy` and `vtk` give worked texts and files; what `plot` refuses, it refuses by its line.
 - Where a file can't be opened, or the output is full, there is one line, and where the output is closed none.
 
 The tool is run on the standard library alone, so without matplotlib. Each difference is printed, and then the status is 1.
@@ -166,6 +166,27 @@ APART_VTK = b"\n".join([
 ])
 
 
+# Units of short numbers: a length unit 1, a mass unit 2, half a second a tick, and a squared sound speed of 64.
+UNITS = "# units: side 1048576 mass 2 tick 0.5\nsound = 1\nshift = 19\nparticle = []\n"
+MOVING = snapshot(0, row(mass=2, q=(3 << 20, 0, 0), rho=1 << 54)) + snapshot(2, row(mass=2, q=(3 << 20, 0, 0), rho=1 << 55)) + END
+MOVING_CSV = """time,number,mass,h,x,y,z,vx,vy,vz,density,bin
+1.0,1,4.0,131072.0,0.0,0.0,0.0,6.0,0.0,0.0,4.0,0
+"""
+MOVING_ENERGY = """time 0 kinetic 7.200000e+01 potential 0.000000e+00 change 0.000e+00
+time 1 kinetic 7.200000e+01 potential 1.774457e+02 change 1.774e+02
+"""  # 4 * 6^2 / 2, and 64 * 4 * ln 2
+
+
+def check_units(folder):
+    deck = folder / "units.toml"
+    deck.write_text(UNITS, encoding="utf-8")
+    expect("csv in units", snap("csv", "-", "--tick", "2", "--units", deck, stream=MOVING), (0, MOVING_CSV, ""))
+    expect("energy", snap("energy", "-", deck, stream=MOVING), (0, MOVING_ENERGY, ""))
+    deck.write_text("sound = 1\n", encoding="utf-8")
+    line = f"snap.py: {deck} has no line of sound or of shift above its particles\n"
+    expect("energy without a shift", snap("energy", "-", deck, stream=MOVING), (1, "", line))
+
+
 def check_files(folder):
     expect("csv of the pair apart", snap("csv", "-", stream=APART), (0, APART_CSV, ""))
     expect("vtk of the pair apart", snap("vtk", "-", folder / "a/b", stream=APART), (0, "", ""))
@@ -206,6 +227,7 @@ def main():
     check_limits()
     with tempfile.TemporaryDirectory() as folder:
         check_files(Path(folder))
+        check_units(Path(folder))
         check_refusals(Path(folder))
         check_output_that_fails(Path(folder))
     return 1 if failed else 0
