@@ -6,6 +6,7 @@ use Rattle.std.proofs.lemmas.Bool.{cases_Bool}
 use Rattle.std.proofs.lemmas.List.{map-id}
 use Rattle.std.proofs.lemmas.List.Folds.{fold_stays}
 use Rattle.std.proofs.lemmas.Simd.{zip2-map}
+use Rattle.lists.proofs.Elements.{map_agree, three-eq}
 use Rattle.sph_num.specs.declared.kind.Kind.TheVariants.{Drift, Density, Ghost, Force, Kick}
 use Rattle.sph_num.specs.declared.particle.Particle.{Particle}
 use Rattle.sph_num.specs.Density.{density_of}
@@ -26,14 +27,11 @@ use Rattle.cell_block.proofs.LeafMembers.{Contains-members_in, in_range}
 use Rattle.cell_block.proofs.Lines.{IsNewlyDone, density_more, force_more}
 use Rattle.cell_block.proofs.Others.{AreOthers}
 use Rattle.cell_block.proofs.Parts.{AreDone, force_with, parts_held, rho_with}
-use Rattle.cell_kern.specs.declared.blocks.Sums.{Sums}
-use Rattle.cell_kern.specs.declared.blocks.Sums.TheVariants.{Densities, Forces}
 use Rattle.cell_kern.specs.declared.members.Member.{Member}
 use Rattle.cell_kern.specs.inner.Gathered.{force_given, rho_given}
-use Rattle.cell_kern.specs.inner.Taking.{AreGivenTo, AreMarked, HasForces, HasRhos, kind_of, rows_in}
+use Rattle.cell_kern.specs.inner.Taking.{AreGivenTo, AreMarked, Densities, Forces, HasForces, HasRhos, Sums, kind_of, rows_in}
 use Rattle.cell_kern.proofs.AtTick.{density_of_sources, force_of_members, member_at_tick, rows_at_tick, rows_of_range, rows_sources, source_at, source_of, tick_seen}
-use Rattle.cell_kern.proofs.Forces.{force_waits, vector-eq}
-use Rattle.cell_kern.proofs.Lists.{map_agree}
+use Rattle.cell_kern.proofs.Forces.{force_waits}
 use Rattle.cell_kern.proofs.Order.{density_drifted, force_drifted, force_ghosted}
 use Rattle.cell_kern.proofs.Seen.{rows_seen, seen}
 
@@ -71,7 +69,7 @@ force_value scene task leaf i done done' all others new are at_tick members =
           ∙ ap (λ x. fold (force_given (member_at_tick scene i)) x all) (chosen (is_due_at scene i) (sum done) p.f due)
           ∙ ap (fold (force_given (member_at_tick scene i)) (sum done)) (sym (map-id all) ∙ members due)
           ∙ force_of_members scene i (sum done) others due refl
-          ∙ vector-eq _ _ _ _ _ _ (on 0) (on 1) (on 2)
+          ∙ three-eq _ _ _ _ _ _ (on 0) (on 1) (on 2)
           ∙ sym (chosen (is_due_at scene i) (sum done') p.f due)
       | inr waits ↦
           fold_stays (force_given (seen scene leaf done i)) f (λ m. force_waits (seen scene leaf done i) f m waits) all

@@ -8,17 +8,16 @@ use Rattle.cell_block.specs.declared.extent.Extent.{Extent}
 use Rattle.cell_block.specs.declared.rows.BlockRows.{BlockRows}
 use Rattle.cell_block.specs.declared.rows.Spot.{Spot}
 use Rattle.cell_block.specs.Extents.{AreApart, AreWithin, IsBeyond, IsWithin}
-use Rattle.cell_kern.specs.declared.blocks.Sums.{Sums}
-use Rattle.cell_kern.specs.declared.blocks.Sums.TheVariants.{Densities, Forces}
 use Rattle.cell_kern.specs.declared.members.Member.{Member}
 use Rattle.cell_kern.specs.declared.members.Members.{Members}
 use Rattle.cell_kern.specs.inner.Gathered.{AreMembers, IsSound, force_given, gathered, list_of, members, no_member, rho_given}
-use Rattle.cell_kern.specs.inner.Taking.{CanTake, IsGiven, rows_in}
+use Rattle.cell_kern.specs.inner.Rooms.{IsFar}
+use Rattle.cell_kern.specs.inner.Taking.{CanTake, Densities, Forces, IsGiven, Sums, rows_in}
 use Rattle.cell_kern.proofs.Densities.{rho_kept}
 use Rattle.cell_kern.proofs.Forces.{force_kept}
 use Rattle.cell_kern.proofs.Lists.{length-members, member_in}
 use Rattle.cell_kern.proofs.Passed.{fold_kept}
-use Rattle.cell_kern.proofs.Reach.{AreFar, IsFar, far}
+use Rattle.cell_kern.proofs.Reach.{AreFar, far}
 use Rattle.cell_kern.proofs.Taken.{length-rows_in}
 
 -- what holds of the spots in a list holds of those of the members that are made of it

@@ -8,6 +8,7 @@ use Rattle.std.proofs.lemmas.List.{map-append}
 use Rattle.std.proofs.lemmas.List.Folds.{fold-map}
 use Rattle.std.proofs.lemmas.List.Sums.{sum_by-cons}
 use Rattle.std.proofs.lemmas.Simd.{map-map}
+use Rattle.lists.proofs.Elements.{map_agree, three-eq}
 use Rattle.sph_num.specs.declared.kind.Kind.TheVariants.{Drift, Ghost}
 use Rattle.sph_num.specs.declared.particle.Particle.{Particle}
 use Rattle.sph_num.specs.Density.{density_of, density_within}
@@ -27,8 +28,7 @@ use Rattle.cell_block.proofs.Parts.{row_h, row_mass, where_drifted}
 use Rattle.cell_kern.specs.declared.members.Member.{Member}
 use Rattle.cell_kern.specs.inner.Gathered.{force_given, member, pull_on, pulled, rho_given}
 use Rattle.cell_kern.specs.inner.Taking.{rows_in}
-use Rattle.cell_kern.proofs.Forces.{none_added, vector-eq, vector_of_itself}
-use Rattle.cell_kern.proofs.Lists.{map_agree}
+use Rattle.cell_kern.proofs.Forces.{none_added, vector_of_itself}
 use Rattle.cell_kern.proofs.Seen.{rows_seen, seen}
 
 -- what a density reads of a particle that gives to it
@@ -140,12 +140,12 @@ pulled_long to f m = refl
 
 force_sum : (to : Member) (f : List ℤ) (from : List Member) → to.due ≡ true → length f ≡ 3 → fold (force_given to) f from ≡ vector_of (λ axis. component f axis +ℤ total_by (λ m. pull_on to m axis) from)
 force_sum to f [] due three =
-    sym (vector-eq _ _ _ _ _ _ (none_added (component f 0) (pos 0) refl) (none_added (component f 1) (pos 0) refl) (none_added (component f 2) (pos 0) refl) ∙ vector_of_itself f three)
+    sym (three-eq _ _ _ _ _ _ (none_added (component f 0) (pos 0) refl) (none_added (component f 1) (pos 0) refl) (none_added (component f 2) (pos 0) refl) ∙ vector_of_itself f three)
 force_sum to f (m ∷ ms) due three =
     let total = λ (axis : ℕ). total_by (λ m. pull_on to m axis) ms in
     let at = pulled_at to f m in
     ap (λ g. fold (force_given to) g ms) (chosen to.due (pulled to f m) f due) ∙ force_sum to (pulled to f m) ms due (pulled_long to f m)
-    ∙ vector-eq _ _ _ _ _ _ (pulled_axis to f m (component f 0) 0 (total 0) at.0) (pulled_axis to f m (component f 1) 1 (total 1) at.1.0) (pulled_axis to f m (component f 2) 2 (total 2) at.1.1)
+    ∙ three-eq _ _ _ _ _ _ (pulled_axis to f m (component f 0) 0 (total 0) at.0) (pulled_axis to f m (component f 1) 1 (total 1) at.1.0) (pulled_axis to f m (component f 2) 2 (total 2) at.1.1)
 
 total_by-map : {A B : Type 0} (f : B → ℤ) (g : A → B) (xs : List A) → total_by f (map g xs) ≡ total_by (λ x. f (g x)) xs
 total_by-map f g [] = refl
@@ -157,4 +157,4 @@ pub force_of_members : (scene : Scene) (i : ℕ) (f : List ℤ) (indices : List 
 force_of_members scene i f indices due three =
     let to = member_at_tick scene i in
     let on = λ (axis : ℕ). ap (λ z. component f axis +ℤ z) (total_by-map (λ m. pull_on to m axis) (member_at_tick scene) indices ∙ sym (force_by_indices scene axis i indices)) in
-    force_sum to f (map (member_at_tick scene) indices) due three ∙ vector-eq _ _ _ _ _ _ (on 0) (on 1) (on 2)
+    force_sum to f (map (member_at_tick scene) indices) due three ∙ three-eq _ _ _ _ _ _ (on 0) (on 1) (on 2)

@@ -1,6 +1,6 @@
 -- What the densities of two members are after one look at their pair.
-use Rattle.std.proofs.Common.{◌≡◌, ℕ, ◌+◌, ◌-◌, ◌*◌, ◌^◌, ◌<◌, ◌≤◌, Bool, true, false, if◌then◌else◌, List, length, get_or, All, fold, inl, inr, sym, refl, ap, ◌∙◌, arith}
-use Rattle.std.proofs.lemmas.Bool.{cases_lt}
+use Rattle.std.proofs.Common.{◌≡◌, ℕ, ◌+◌, ◌-◌, ◌*◌, ◌^◌, ◌≤◌, Bool, true, false, if◌then◌else◌, List, length, All, fold, sym, refl, ap, ◌∙◌, arith}
+use Rattle.std.proofs.lemmas.List.{get_or_default}
 use Rattle.std.proofs.lemmas.Bool.Decides.{nat_tests}
 use Rattle.sph_num.specs.Density.{density_within}
 use Rattle.sph_num.specs.Pull.{Puller}
@@ -10,10 +10,10 @@ use Rattle.sph_num.proofs.Sums.{density_within-lt, dist2_self}
 use Rattle.sph_num.proofs.Turned.{dist2-comm}
 use Rattle.cell_block.specs.declared.rows.Spot.{Spot}
 use Rattle.cell_kern.specs.declared.members.Member.{Member}
-use Rattle.cell_kern.specs.inner.Gathered.{AreBelow, IsSound, member, no_member, rho_given}
-use Rattle.cell_kern.proofs.Gathers.{AreGiven}
+use Rattle.cell_kern.specs.inner.Gathered.{AreBelow, IsSound, member, rho_given}
+use Rattle.cell_kern.specs.inner.Rooms.{AreSums, HaveRoom, IsFar, rho_room}
 use Rattle.cell_kern.proofs.Passed.{fold-le}
-use Rattle.cell_kern.proofs.Reach.{IsFar, own_far}
+use Rattle.cell_kern.proofs.Reach.{own_far}
 
 -- out of reach it gives nothing
 density_within_outer : (mass r2 h : ℕ) → h * h ≤ r2 → density_within mass r2 h ≡ 0
@@ -63,18 +63,14 @@ pub rho_of_itself : (one : Member) (rho new : ℕ) → new ≡ (if one.due then 
 rho_of_itself one rho new given =
     given ∙ ap (λ (n : ℕ). if one.due then rho + density_within one.pull.mass n one.pull.h else rho) (sym (dist2_self one.spot.place))
 
--- the sums of due members stay small
-pub below_given : (to whole part : List Member) (upto : ℕ) (before after : List ℕ) → length before ≡ length to → All IsSound to → All IsSound whole → All IsSound part → length whole ≤ most_particles → length part ≤ most_particles
-    → AreBelow (2 ^ 62 + 2 ^ 61) to before → AreGiven rho_given to whole part upto before after → AreBelow (2 ^ 63) to after
-below_given to whole part upto before after same sound all_whole all_part few_whole few_part below are =
-    λ k inside due.
-    let one = get_or to k no_member in
-    let rho = get_or before k 0 in
-    elim (cases_lt k upto) [
-      | inl early ↦ omega (arith, are.done k 0 early (omega arith), rho_sum-le one rho whole (sound k no_member inside) all_whole, below k inside due)
-      | inr late ↦ omega (arith, are.rest k 0 late (omega arith), rho_sum-le one rho part (sound k no_member inside) all_part, below k inside due)
-    ]
+-- densities are sums as the loops take them
+pub rho_laws : AreSums rho_given rho_room
+rho_laws = record {
+  fewer = λ m n rho low room. omega arith;
+  takes = λ n to from rho sound others room. omega (arith, rho_given-le to rho from sound others);
+  kept = λ to from rho far room. rho_kept to rho from far;
+}
 
--- also after a member gave to itself
-pub below_own : (one : Member) (rho own : ℕ) → IsSound one → (one.due ≡ true → rho < 2 ^ 63) → own ≡ rho_given one rho one → one.due ≡ true → own < 2 ^ 63 + 2 ^ 60
-below_own one rho own sound low is due = omega (arith, low due, rho_given-le one rho one sound sound)
+-- and so small they have room for two lists
+pub rho_has_room : (to : List Member) (rhos : List ℕ) → length rhos ≡ length to → AreBelow (3 * 2 ^ 61) to rhos → HaveRoom rho_room (2 * most_particles) to rhos
+rho_has_room to rhos same below = λ k d inside due. omega (arith, get_or_default rhos k 0 d (omega (arith, same)), below k inside due)

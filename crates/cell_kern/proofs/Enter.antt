@@ -35,11 +35,9 @@ use Rattle.cell_block.proofs.Parts.{force_with, parts_held, rho_with}
 use Rattle.cell_block.proofs.Ranges.{sound_at}
 use Rattle.cell_block.proofs.RowsHeld.{IsWhole-from_agrees}
 use Rattle.cell_block.proofs.SplitSums.{AreDistinct, total_distinct}
-use Rattle.cell_kern.specs.declared.blocks.Sums.{Sums}
-use Rattle.cell_kern.specs.declared.blocks.Sums.TheVariants.{Densities, Forces}
 use Rattle.cell_kern.specs.declared.members.Member.{Member}
 use Rattle.cell_kern.specs.inner.Gathered.{IsNarrow, IsSound, no_member}
-use Rattle.cell_kern.specs.inner.Taking.{CanTake, CanTakeAll, HasRoom, rows_in}
+use Rattle.cell_kern.specs.inner.Taking.{CanTake, CanTakeAll, Densities, Forces, HasRoom, Sums, rows_in}
 use Rattle.cell_kern.proofs.AtTick.{member_at_tick, rows_of_range}
 use Rattle.cell_kern.proofs.Forces.{pull_on-le}
 use Rattle.cell_kern.proofs.Seen.{ghost_low, rows_seen, rows_sound, seen}

@@ -1,12 +1,14 @@
 -- What the forces on two members are after one look at their pair.
-use Rattle.std.proofs.Common.{◌≡◌, ℕ, zero, suc, ◌+◌, ◌*◌, ◌^◌, ◌<◌, ◌≤◌, ℤ, pos, negsuc, Bool, true, false, if◌then◌else◌, List, [], ◌∷◌, length, get_or, All, fold, to_z, of_z, inl, inr, sym, refl, ap, ◌∙◌, arith}
+use Rattle.std.proofs.Common.{◌≡◌, ℕ, zero, suc, ◌+◌, ◌*◌, ◌^◌, ◌<◌, ◌≤◌, ℤ, pos, negsuc, Bool, true, false, if◌then◌else◌, List, [], ◌∷◌, length, get_or, All, fold, to_z, of_z, inl, inr, subst, sym, refl, ap, ◌∙◌, arith}
 use Rattle.std.specs.Prelude.{◌+ℤ◌, ◌-ℤ◌, ◌*ℤ◌, unsigned_abs}
 use Rattle.std.specs.Int.{int_rem_euclid, w128}
-use Rattle.std.proofs.lemmas.Bool.{cases_lt, cases_Bool}
+use Rattle.std.proofs.lemmas.Bool.{cases_Bool}
+use Rattle.std.proofs.lemmas.List.{get_or_default}
 use Rattle.std.proofs.lemmas.Int.{ints, to_z-of_z, fits_signed_from_abs, unsigned_abs-mul}
 use Rattle.std.proofs.lemmas.Nat.{mul-le}
 use Rattle.std.proofs.Math.IntN.{neg_ℤ, neg_ℤ-neg_ℤ, *ℤ-zero, *ℤ-negsuc}
 use Rattle.std.proofs.Math.Nat.{mul_comm, add_comm, mul-zero}
+use Rattle.lists.proofs.Elements.{three-eq}
 use Rattle.sph_num.specs.Force.{InReach, factor_within}
 use Rattle.sph_num.specs.Pull.{Puller, pair_factor}
 use Rattle.sph_num.specs.Ranges.{most_particles}
@@ -18,11 +20,10 @@ use Rattle.sph_num.proofs.Sums.{minimal_self}
 use Rattle.sph_num.proofs.Turned.{dist2-comm, minimal_turned_in_reach}
 use Rattle.cell_block.specs.declared.rows.Spot.{Spot}
 use Rattle.cell_kern.specs.declared.members.Member.{Member}
-use Rattle.cell_kern.specs.inner.Gathered.{AreNarrow, IsNarrow, IsSound, force_given, member, no_member, pull_along, pull_on, pulled}
-use Rattle.cell_kern.proofs.Gathers.{AreGiven}
+use Rattle.cell_kern.specs.inner.Gathered.{AreNarrow, IsNarrow, IsSound, force_given, member, pull_along, pull_on, pulled}
+use Rattle.cell_kern.specs.inner.Rooms.{AreSums, HasForceRoom, HaveRoom, IsFar}
 use Rattle.cell_kern.proofs.Lists.{either}
 use Rattle.cell_kern.proofs.Passed.{fold-le}
-use Rattle.cell_kern.proofs.Reach.{IsFar}
 
 -- a sum and a difference that fit are computed exactly
 exact : (z : ℤ) → unsigned_abs z < 2 ^ 127 → to_z w128 (of_z w128 z) ≡ z
@@ -40,10 +41,7 @@ difference_exact x y small_x small_y =
     let second : to_z w128 (of_z w128 y) ≡ y = exact y (omega arith) in
     rw (first, second) (exact (x -ℤ y) (omega (arith, ints)))
 
--- a vector from equal components, and of its own
-pub vector-eq : (a b c x y z : ℤ) → a ≡ x → b ≡ y → c ≡ z → a ∷ b ∷ c ∷ [] ≡ x ∷ y ∷ z ∷ []
-vector-eq a b c x y z p q r = rw (p, q, r) refl
-
+-- a vector of its own components
 pub vector_of_itself : (f : List ℤ) → length f ≡ 3 → vector_of (component f) ≡ f
 vector_of_itself [] three = absurd (omega arith)
 vector_of_itself (x ∷ []) three = absurd (omega arith)
@@ -104,7 +102,7 @@ force_of_other one other spot pull due r2 sum force new is distance sound others
     let there = λ (axis : ℕ). ap (λ (n : ℕ). component sum axis -ℤ pull_along one.pull pull n one.spot.place spot.place axis) distance ∙ ap (λ (m : Member). component sum axis -ℤ pull_on one m axis) (sym is) ∙ turned one other (component sum axis) axis sound others reach in
     given
     ∙ ap (λ (v : List ℤ). if due then vector_of (λ axis. component sum axis -ℤ component v axis) else sum) force_is
-    ∙ ap (λ (v : List ℤ). if due then v else sum) (vector-eq _ _ _ _ _ _ (there 0) (there 1) (there 2))
+    ∙ ap (λ (v : List ℤ). if due then v else sum) (three-eq _ _ _ _ _ _ (there 0) (there 1) (there 2))
     ∙ ap (λ (m : Member). if m.due then vector_of (λ axis. component sum axis +ℤ pull_on other one axis) else sum) (sym is)
 
 pub none_added : (x y : ℤ) → y ≡ pos 0 → x +ℤ y ≡ x
@@ -117,7 +115,7 @@ nothing_more to from sum three none =
     elim (cases_Bool to.due) [
       | inl due ↦
           let same = λ (axis : ℕ). none_added (component sum axis) (pull_on to from axis) (none axis) in
-          rw due (vector-eq _ _ _ _ _ _ (same 0) (same 1) (same 2) ∙ vector_of_itself sum (three due))
+          rw due (three-eq _ _ _ _ _ _ (same 0) (same 1) (same 2) ∙ vector_of_itself sum (three due))
       | inr waits ↦ rw waits refl
     ]
 
@@ -195,17 +193,18 @@ force_sum-narrow to sum from limit sound all few narrow = record {
       omega (arith, narrow.small axis, fold-le (λ (f : List ℤ). unsigned_abs (component f axis)) (2 ^ 95) IsSound (force_given to) (λ f m others. given-le axis to f m sound others) sum from all);
 }
 
-wider : {force : List ℤ} → IsNarrow (2 ^ 118 + 2 ^ 110) force → IsNarrow (2 ^ 119) force
-wider narrow = record { three = narrow.three; small = λ axis. omega (arith, narrow.small axis) }
+-- forces are sums as the loops take them
+pub force_laws : AreSums force_given HasForceRoom
+force_laws = record {
+  fewer = λ m n force low room. record { three = room.three; small = λ axis. omega (arith, room.small axis) };
+  takes = λ n to from force sound others room. record { three = given_three to force from room.three; small = λ axis. omega (arith, given-le axis to force from sound others, room.small axis) };
+  kept = λ to from force far room. force_kept to force from (λ due. (room due).three) far;
+}
 
--- the sums of due members stay narrow
-pub narrow_given : (to whole part : List Member) (upto : ℕ) (before after : List (List ℤ)) → length before ≡ length to → All IsSound to → All IsSound whole → All IsSound part → length whole ≤ most_particles → length part ≤ most_particles
-    → AreNarrow (2 ^ 118) to before → AreGiven force_given to whole part upto before after → AreNarrow (2 ^ 119) to after
-narrow_given to whole part upto before after same sound all_whole all_part few_whole few_part narrow are =
-    λ k inside due.
-    let one = get_or to k no_member in
-    let sum = get_or before k [] in
-    elim (cases_lt k upto) [
-      | inl early ↦ rw (are.done k [] early (omega arith)) (wider (force_sum-narrow one sum whole (2 ^ 118) (sound k no_member inside) all_whole few_whole (narrow k inside due)))
-      | inr late ↦ rw (are.rest k [] late (omega arith)) (wider (force_sum-narrow one sum part (2 ^ 118) (sound k no_member inside) all_part few_part (narrow k inside due)))
-    ]
+-- and so narrow they have room for two lists
+narrow_room : (force : List ℤ) → IsNarrow (3 * 2 ^ 112) force → HasForceRoom (2 * most_particles) force
+narrow_room force narrow = record { three = narrow.three; small = λ axis. omega (arith, narrow.small axis) }
+
+pub force_has_room : (to : List Member) (forces : List (List ℤ)) → length forces ≡ length to → AreNarrow (3 * 2 ^ 112) to forces → HaveRoom HasForceRoom (2 * most_particles) to forces
+force_has_room to forces same narrow = λ k d inside due.
+    subst (HasForceRoom (2 * most_particles)) (get_or_default forces k [] d (omega (arith, same))) (narrow_room (get_or forces k []) (narrow k inside due))

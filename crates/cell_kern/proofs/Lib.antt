@@ -1,6 +1,7 @@
 pub mod Lists
 pub mod Passed
 pub mod Reach
+pub mod Rooms
 pub mod Gathers
 pub mod Densities
 pub mod Forces

@@ -1,10 +1,9 @@
 -- A member of a list of members is made of what stands at its index in the three lists.
-use Rattle.std.proofs.Common.{◌≡◌, ℕ, ◌-◌, ◌<◌, Bool, true, false, if◌then◌else◌, List, [], ◌∷◌, length, map, get_or, drop, All, Contains, refl, ap, ◌∙◌, arith}
+use Rattle.std.proofs.Common.{◌≡◌, ℕ, ◌-◌, ◌<◌, Bool, true, false, if◌then◌else◌, List, length, get_or, drop, All, ap, ◌∙◌, arith}
 use Rattle.std.specs.List.{between}
 use Rattle.std.proofs.lemmas.List.Elements.{All-take, All-drop}
 use Rattle.std.specs.Simd.Lanes.{zip2}
 use Rattle.std.proofs.lemmas.Simd.{length-zip2, get_or-zip2}
-use Rattle.lists.proofs.Elements.{Contains-head, Contains-later}
 use Rattle.sph_num.specs.Pull.{Puller}
 use Rattle.cell_block.specs.declared.rows.Spot.{Spot}
 use Rattle.cell_kern.specs.declared.members.Member.{Member}
@@ -40,8 +39,3 @@ All-between P xs from upto all = All-take P (upto - from) (drop from xs) (All-dr
 pub either : {X : Type 0} (P : X → Type 0) (b : Bool) (x y : X) → P x → P y → P (if b then x else y)
 either P true x y first second = first
 either P false x y first second = second
-
--- lists that agree on the elements
-pub map_agree : {X Y : Type 0} (f g : X → Y) (xs : List X) → ((x : X) → Contains xs x → f x ≡ g x) → map f xs ≡ map g xs
-map_agree f g [] same = refl
-map_agree f g (x ∷ xs) same = ap (λ y. y ∷ map f xs) (same x (Contains-head x xs)) ∙ ap (λ ys. g x ∷ ys) (map_agree f g xs (λ y at. same y (Contains-later x xs y at)))

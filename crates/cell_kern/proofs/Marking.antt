@@ -10,10 +10,8 @@ use Rattle.cell_block.specs.Scene.{is_in, line_at, touches}
 use Rattle.cell_block.specs.Tasks.{IsMarked}
 use Rattle.cell_block.proofs.Added.{keeps_task}
 use Rattle.cell_block.proofs.LeafMembers.{in_range}
-use Rattle.cell_kern.specs.declared.blocks.Sums.{Sums}
-use Rattle.cell_kern.specs.declared.blocks.Sums.TheVariants.{Densities, Forces}
 use Rattle.cell_kern.specs.declared.members.Member.{Member}
-use Rattle.cell_kern.specs.inner.Taking.{AreGivenTo, AreMarked, IsGiven, KeepTask}
+use Rattle.cell_kern.specs.inner.Taking.{AreGivenTo, AreMarked, Densities, Forces, IsGiven, KeepTask, Sums}
 
 -- the first blocks are marked, the others as they were
 pub record AreMarkedTo (task upto : ℕ) (before after : List BlockRows) : Type 0 where

@@ -7,10 +7,9 @@ use Rattle.std.proofs.lemmas.List.Elements.{All-nil}
 use Rattle.lists.proofs.Elements.{All-flat_map}
 use Rattle.sph_num.specs.Ranges.{most_particles}
 use Rattle.cell_block.specs.declared.rows.BlockRows.{BlockRows}
-use Rattle.cell_kern.specs.declared.blocks.Sums.{Sums}
 use Rattle.cell_kern.specs.declared.members.Member.{Member}
 use Rattle.cell_kern.specs.inner.Gathered.{IsSound}
-use Rattle.cell_kern.specs.inner.Taking.{AreGivenTo, CanTake, CanTakeAll, IsGiven, rows_in}
+use Rattle.cell_kern.specs.inner.Taking.{AreGivenTo, CanTake, CanTakeAll, IsGiven, Sums, rows_in}
 use Rattle.cell_kern.proofs.Taken.{same_rows, taken_can, taken_more, taken_none}
 
 -- the first blocks were given to by the whole, the others by a part of it

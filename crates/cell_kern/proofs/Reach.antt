@@ -8,10 +8,7 @@ use Rattle.sph_num.proofs.Turned.{dist2-comm}
 use Rattle.cell_block.specs.declared.rows.Spot.{Spot}
 use Rattle.cell_kern.specs.declared.members.Member.{Member}
 use Rattle.cell_kern.specs.inner.Gathered.{IsSound, member}
-
--- neither length reaches
-abbrev pub IsFar : Member → Member → Type 0
-IsFar to from = max to.pull.h from.pull.h * max to.pull.h from.pull.h ≤ dist2 to.spot.place from.spot.place
+use Rattle.cell_kern.specs.inner.Rooms.{IsFar}
 
 pub record AreFar (one other : Member) : Type 0 where
   pub own : IsFar one other
@@ -35,10 +32,7 @@ far one other spot pull due reach r2 is sound others greater distance beyond =
     }
 
 -- or one does
-pub near : (one other : Member) (spot : Spot) (pull : Puller) (due : Bool) (reach r2 : ℕ) → other ≡ member spot pull due → IsSound one → IsSound other → reach ≡ max one.spot.h spot.h → r2 ≡ dist2 one.spot.place spot.place → r2 < reach * reach
-    → InReach (dist2 one.spot.place other.spot.place) one.pull.h other.pull.h
-near one other spot pull due reach r2 is sound others greater distance within =
-    let h : other.spot.h ≡ spot.h = ap (λ (m : Member). m.spot.h) is in
-    let there : r2 ≡ dist2 one.spot.place other.spot.place = distance ∙ ap (λ (m : Member). dist2 one.spot.place m.spot.place) (sym is) in
-    let first : reach ≡ max one.pull.h other.pull.h = omega (arith, sound.one_h, others.one_h) in
-    rw (← first, ← there) within
+pub near : (one : Member) (spot : Spot) (pull : Puller) (due : Bool) (reach r2 : ℕ) → IsSound one → IsSound (member spot pull due) → reach ≡ max one.spot.h spot.h → r2 < reach * reach → InReach r2 one.pull.h pull.h
+near one spot pull due reach r2 sound others greater within =
+    let first : reach ≡ max one.pull.h pull.h = omega (arith, sound.one_h, others.one_h) in
+    rw (← first) within

@@ -5,11 +5,9 @@ use Rattle.std.proofs.lemmas.Simd.{length-zip2, get_or-zip2}
 use Rattle.sph_num.specs.Ranges.{most_particles}
 use Rattle.cell_block.specs.declared.rows.BlockRows.{BlockRows}
 use Rattle.cell_block.specs.Extents.{AreWithin}
-use Rattle.cell_kern.specs.declared.blocks.Sums.{Sums}
-use Rattle.cell_kern.specs.declared.blocks.Sums.TheVariants.{Densities, Forces}
 use Rattle.cell_kern.specs.declared.members.Member.{Member}
 use Rattle.cell_kern.specs.inner.Gathered.{IsSound, force_given, gathered, no_member, rho_given}
-use Rattle.cell_kern.specs.inner.Taking.{CanTake, HasRoom, IsGiven, rows_in}
+use Rattle.cell_kern.specs.inner.Taking.{CanTake, Densities, Forces, HasRoom, IsGiven, Sums, rows_in}
 use Rattle.cell_kern.proofs.Densities.{rho_sum-le}
 use Rattle.cell_kern.proofs.Forces.{force_sum-narrow}
 use Rattle.cell_kern.proofs.Lists.{length-members}

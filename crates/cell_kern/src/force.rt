@@ -1,114 +1,42 @@
-//! The forces of pairs: each pair is looked at once, its factor is found once, and gives to each of its two that
-//! is due, with the sign turned for the second.
-ghost use Rattle.std.specs.Prelude.{◌≡◌, ℕ, ◌<◌, ◌≤◌, ◌*◌, ◌^◌, true, pos, ◌+ℤ◌, ◌-ℤ◌, ◌*ℤ◌, unsigned_abs, fold, length, if◌then◌else◌};
-ghost use Rattle.std.specs.List.{between};
+//! The forces of pairs: the factor of a pair is found once, and gives to each of its two with the sign turned for the
+//! second.
+ghost use Rattle.std.specs.Prelude.{◌≡◌, ℕ, ◌<◌, ◌≤◌, ◌*◌, ◌^◌, true, pos, ◌+ℤ◌, ◌-ℤ◌, ◌*ℤ◌, unsigned_abs, if◌then◌else◌};
 ghost use Rattle.sph_num.specs.Space.{IsPlace, box_side, minimal};
 ghost use Rattle.sph_num.specs.Totals.{component, vector_of};
-ghost use Rattle.cell_block.specs.Extents.{AreWithin};
-ghost use Rattle.cell_kern.specs.inner.Gathered.{AreMembers, AreNarrow, IsNarrow, IsPassed, IsSmall, IsSound, force_given, gathered, list_of, pull_along};
+ghost use Rattle.cell_kern.specs.inner.Gathered.{IsSmall, force_given, pull_along};
+ghost use Rattle.cell_kern.specs.inner.Rooms.{HasForceRoom};
 
-use crate::members::{Member, Members};
-use cell_block::{Extent, Spot};
-use sph_num::{Pull, Tables, dist2, minimal};
+use crate::members::{Member, Other};
+use crate::pairing::Pairing;
+use cell_block::Spot;
+use sph_num::{Pull, Tables, minimal};
 
-/// Adds what the members of one list give to one another.
-pub(crate) fn force_within(tables: &Tables, members: &Members, forces: &mut [[i128; 3]])
-    requires members { AreMembers members.now }
-    requires count { length forces.old ≡ length members.now.spots.now }
-    requires room { AreNarrow (2 ^ 118) (list_of members.now) forces.old }
-    ensures { forces.new ≡ gathered force_given (list_of members.now) (list_of members.now) forces.old }
-{
-    for i in 0..members.spots.len() {
-        let one = members.at(i);
-        let mut sum = forces[i];
-        force_row(tables, &one, members, i + 1, forces, &mut sum);
-        forces[i] = sum;
-    }
-}
+/// The forces on members: none gives itself one.
+pub(crate) struct Forces;
 
-/// Adds what the members of two lists give to one another. The box is one in which the second list lies.
-pub(crate) fn force_between(
-    tables: &Tables,
-    first: &Members,
-    second: &Members,
-    extent: &Extent,
-    first_forces: &mut [[i128; 3]],
-    second_forces: &mut [[i128; 3]],
-)
-    requires first { AreMembers first.now }
-    requires second { AreMembers second.now }
-    requires extent { AreWithin extent.now second.now.spots.now }
-    requires first_count { length first_forces.old ≡ length first.now.spots.now }
-    requires second_count { length second_forces.old ≡ length second.now.spots.now }
-    requires first_room { AreNarrow (2 ^ 118) (list_of first.now) first_forces.old }
-    requires second_room { AreNarrow (2 ^ 118) (list_of second.now) second_forces.old }
-    ensures first { first_forces.new ≡ gathered force_given (list_of first.now) (list_of second.now) first_forces.old }
-    ensures second { second_forces.new ≡ gathered force_given (list_of second.now) (list_of first.now) second_forces.old }
-{
-    for i in 0..first.spots.len() {
-        let one = first.at(i);
-        let mut sum = first_forces[i];
-        force_near(tables, &one, second, extent, second_forces, &mut sum);
-        first_forces[i] = sum;
-    }
-}
+impl Pairing for Forces {
+    type Sum = [i128; 3];
 
-/// Adds what a member and those of a list give to one another, which is nothing where it is out of reach of the
-/// box in which the list lies.
-#[inline]
-fn force_near(
-    tables: &Tables,
-    one: &Member,
-    others: &Members,
-    extent: &Extent,
-    forces: &mut [[i128; 3]],
-    sum: &mut [i128; 3],
-)
-    requires one { IsSound one.now }
-    requires others { AreMembers others.now }
-    requires extent { AreWithin extent.now others.now.spots.now }
-    requires count { length forces.old ≡ length others.now.spots.now }
-    requires room { one.now.due ≡ true → IsNarrow (2 ^ 119) sum.old }
-    requires rooms { AreNarrow (2 ^ 119) (list_of others.now) forces.old }
-    ensures own { sum.new ≡ fold (force_given one.now) sum.old (list_of others.now) }
-    ensures others { IsPassed force_given one.now (list_of others.now) 0 (length forces.old) forces.old forces.new }
-{
-    if !Extent::point(&one.spot).is_apart(extent) {
-        force_row(tables, one, others, 0, forces, sum);
-    }
-}
+    ghost given = { force_given };
 
-/// Adds what a member and those of a list from an index on give to one another, to the list's sums and to the
-/// member's own.
-#[inline]
-fn force_row(
-    tables: &Tables,
-    one: &Member,
-    others: &Members,
-    from: usize,
-    forces: &mut [[i128; 3]],
-    sum: &mut [i128; 3],
-)
-    requires one { IsSound one.now }
-    requires others { AreMembers others.now }
-    requires from { from ≤ length others.now.spots.now }
-    requires count { length forces.old ≡ length others.now.spots.now }
-    requires room { one.now.due ≡ true → IsNarrow (2 ^ 119) sum.old }
-    requires rooms { AreNarrow (2 ^ 119) (list_of others.now) forces.old }
-    ensures own { sum.new ≡ fold (force_given one.now) sum.old (between from (length forces.old) (list_of others.now)) }
-    ensures others { IsPassed force_given one.now (list_of others.now) from (length forces.old) forces.old forces.new }
-{
-    for j in from..others.spots.len() {
-        let spot = &others.spots[j];
-        let r2 = dist2(one.spot.place, spot.place);
-        let reach = u64::from(one.spot.h.max(spot.h));
-        if r2 < reach * reach {
-            let due = others.due[j];
-            if one.due || due {
-                let force = pair_force(tables, one, spot, &others.pulls[j], r2);
-                add_force(sum, one.due, force);
-                take_force(&mut forces[j], due, force);
-            }
+    ghost has_room = { HasForceRoom };
+
+    #[inline]
+    fn add_own(_tables: &Tables, _one: &Member, _force: &mut [i128; 3]) {}
+
+    #[inline]
+    fn add_pair(
+        tables: &Tables,
+        one: &Member,
+        other: &Other,
+        r2: u64,
+        sum: &mut [i128; 3],
+        other_sum: &mut [i128; 3],
+    ) {
+        if one.due || other.due {
+            let force = pair_force(tables, one, other.spot, other.pull, r2);
+            add_force(sum, one.due, force);
+            take_force(other_sum, other.due, force);
         }
     }
 }

@@ -5,6 +5,9 @@ mod blocks;
 mod density;
 mod force;
 mod members;
+mod pairing;
+mod pairs;
+mod sums;
 mod tasks;
 #[cfg(test)]
 mod tests;

@@ -13,6 +13,14 @@ pub(crate) struct Member {
     pub due: bool,
 }
 
+/// The other member of a pair, lent from the lists in which it stands.
+#[derive(Clone, Copy, Debug)]
+pub(crate) struct Other<'a> {
+    pub spot: &'a Spot,
+    pub pull: &'a Pull,
+    pub due: bool,
+}
+
 /// The members of a block: three lists with an element for each.
 #[derive(Clone, Copy, Debug)]
 pub(crate) struct Members<'a> {

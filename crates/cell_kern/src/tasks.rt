@@ -7,7 +7,10 @@ ghost use Rattle.cell_block.specs.Tasks.{IsTask};
 ghost use Rattle.cell_kern.specs.Tasks.{second_of};
 ghost use Rattle.cell_kern.specs.inner.Taking.{AreMarked, KeepTask, kind_of};
 
-use crate::blocks::{Sums, add_between, add_within};
+use crate::blocks::{add_between, add_within};
+use crate::density::Densities;
+use crate::force::Forces;
+use crate::sums::BlockSums;
 use cell_block::{Block, Scene};
 use sph_num::Tables;
 
@@ -20,7 +23,7 @@ pub fn density_self(scene: &Scene, tables: &Tables, task: u32, blocks: &mut [Blo
     requires ready { AreReady scene.now task (line_at scene.now task).first blocks.old }
     ensures { AreAdded scene.now task (line_at scene.now task).first blocks.old blocks.new }
 {
-    add_self(scene, tables, Sums::Densities, task, blocks);
+    add_self::<Densities>(scene, tables, task, blocks);
 }
 
 /// Adds the forces of a task on one cell, as `density_self` does the densities; no member gives itself one.
@@ -31,7 +34,7 @@ pub fn force_self(scene: &Scene, tables: &Tables, task: u32, blocks: &mut [Block
     requires ready { AreReady scene.now task (line_at scene.now task).first blocks.old }
     ensures { AreAdded scene.now task (line_at scene.now task).first blocks.old blocks.new }
 {
-    add_self(scene, tables, Sums::Forces, task, blocks);
+    add_self::<Forces>(scene, tables, task, blocks);
 }
 
 /// Adds the densities of a task on two cells: each pair of a member of the one and a member of the other. Only
@@ -51,7 +54,7 @@ pub fn density_pair(
     ensures first { AreAdded scene.now task (line_at scene.now task).first first.old first.new }
     ensures second { AreAdded scene.now task (second_of (line_at scene.now task)) second.old second.new }
 {
-    add_pair(scene, tables, Sums::Densities, task, first, second);
+    add_pair::<Densities>(scene, tables, task, first, second);
 }
 
 /// Adds the forces of a task on two cells, as `density_pair` does the densities.
@@ -70,39 +73,38 @@ pub fn force_pair(
     ensures first { AreAdded scene.now task (line_at scene.now task).first first.old first.new }
     ensures second { AreAdded scene.now task (second_of (line_at scene.now task)) second.old second.new }
 {
-    add_pair(scene, tables, Sums::Forces, task, first, second);
+    add_pair::<Forces>(scene, tables, task, first, second);
 }
 
 /// A task on one cell. The scene is there for the contract alone.
-fn add_self(_scene: &Scene, tables: &Tables, sums: Sums, task: u32, blocks: &mut [Block])
+fn add_self<S: BlockSums>(_scene: &Scene, tables: &Tables, task: u32, blocks: &mut [Block])
     requires scene { IsGoodScene _scene.now }
-    requires task { IsTask _scene.now (kind_of sums) task }
+    requires task { IsTask _scene.now (kind_of S.sums) task }
     requires one_cell { (line_at _scene.now task).second ≡ None }
     requires ready { AreReady _scene.now task (line_at _scene.now task).first blocks.old }
     ensures { AreAdded _scene.now task (line_at _scene.now task).first blocks.old blocks.new }
 {
-    add_within(tables, sums, blocks);
+    add_within::<S>(tables, blocks);
     mark_all(task, blocks);
 }
 
 /// A task on two cells. The scene is there for the contract alone.
-fn add_pair(
+fn add_pair<S: BlockSums>(
     _scene: &Scene,
     tables: &Tables,
-    sums: Sums,
     task: u32,
     first: &mut [Block],
     second: &mut [Block],
 )
     requires scene { IsGoodScene _scene.now }
-    requires task { IsTask _scene.now (kind_of sums) task }
+    requires task { IsTask _scene.now (kind_of S.sums) task }
     requires two_cells { (line_at _scene.now task).second ≡ Some (second_of (line_at _scene.now task)) }
     requires first_ready { AreReady _scene.now task (line_at _scene.now task).first first.old }
     requires second_ready { AreReady _scene.now task (second_of (line_at _scene.now task)) second.old }
     ensures first { AreAdded _scene.now task (line_at _scene.now task).first first.old first.new }
     ensures second { AreAdded _scene.now task (second_of (line_at _scene.now task)) second.old second.new }
 {
-    add_between(tables, sums, first, second);
+    add_between::<S>(tables, first, second);
     mark_all(task, first);
     mark_all(task, second);
 }

@@ -2,11 +2,12 @@
 //! scenes are tested where the ghosts and the kicks stand.
 ghost use Rattle.std.specs.Prelude.{◌≡◌, [], ◌∷◌};
 
-use crate::density::density_between;
-use crate::force::{force_between, force_within};
+use crate::density::Densities;
+use crate::force::Forces;
 use crate::members::Members;
+use crate::pairs::{between, within};
 use cell_block::{Extent, Spot};
-use sph_num::{BOX_SIDE, Length, Pull, Tables};
+use sph_num::{Length, Pull, Tables};
 use std::alloc::AllocError;
 
 /// A member's spot on the first axis.
@@ -26,22 +27,8 @@ fn pull() -> Pull
     Pull::new(Length::new(1024), 1024, 1286)
 }
 
-/// No clause says that what is out of reach is passed over, only that nothing else is.
 #[test]
-fn tells_boxes_apart_either_way_round(rt: HostRuntime) {
-    let boxed = Extent::of(&[spot(512), spot(0)]);
-    for (x, apart) in [
-        (1535, false),
-        (1536, true),
-        (1_047_552, true),
-        (1_047_553, false),
-    ] {
-        assert!(rt; x < BOX_SIDE);
-        assert_eq!(rt; boxed.is_apart(&Extent::point(&spot(x))), apart, "at {x}");
-    }
-}
-
-#[test]
+#[tactic(auto, using(crate::proofs::Forces::force_laws))]
 fn turns_the_force_for_the_second(rt: HostRuntime) -> Result<(), AllocError> {
     let tables = Tables::new(rt.alloc())?;
     let spots = [spot(1000), spot(1512)];
@@ -53,12 +40,13 @@ fn turns_the_force_for_the_second(rt: HostRuntime) -> Result<(), AllocError> {
         due: &due,
     };
     let mut forces = [[0; 3]; 2];
-    force_within(&tables, &members, &mut forces);
+    within::<Forces>(&tables, &members, &mut forces);
     assert_eq!(rt; forces, [[-659_298_496_512, 0, 0], [659_298_496_512, 0, 0]]);
     Ok(())
 }
 
 #[test]
+#[tactic(auto, using(crate::proofs::Densities::rho_laws, crate::proofs::Forces::force_laws))]
 fn gives_to_the_due_one_across_the_face(rt: HostRuntime) -> Result<(), AllocError> {
     let tables = Tables::new(rt.alloc())?;
     let (low, high) = ([spot(256)], [spot(1_048_320)]);
@@ -75,10 +63,10 @@ fn gives_to_the_due_one_across_the_face(rt: HostRuntime) -> Result<(), AllocErro
     };
     let extent = Extent::of(&low);
     let (mut kept, mut summed) = ([7], [43_748_163_584]);
-    density_between(&tables, &due, &waiting, &extent, &mut summed, &mut kept);
+    between::<Densities>(&tables, &due, &waiting, &extent, &mut summed, &mut kept);
     assert_eq!(rt; (kept, summed), ([7], [54_685_204_480]));
     let (mut kept, mut summed) = ([[7; 3]], [[0; 3]]);
-    force_between(&tables, &due, &waiting, &extent, &mut summed, &mut kept);
+    between::<Forces>(&tables, &due, &waiting, &extent, &mut summed, &mut kept);
     assert_eq!(rt; (kept, summed), ([[7; 3]], [[-659_298_496_512, 0, 0]]));
     Ok(())
 }

@@ -9,12 +9,17 @@ use Rattle.sph_num.specs.Totals.{component, vector_of}
 use Rattle.cell_block.specs.declared.rows.Spot.{Spot}
 use Rattle.cell_kern.specs.declared.members.Member.{Member}
 use Rattle.cell_kern.specs.declared.members.Members.{Members}
+use Rattle.cell_kern.specs.declared.members.Other.{Other}
 
 abbrev pub no_member : Member
 no_member = record { spot = record { place = []; h = 0 }; pull = puller 0 0 0; due = false }
 
 abbrev pub member : Spot → Puller → Bool → Member
 member spot pull due = record { spot = spot; pull = pull; due = due }
+
+-- the other member of a pair
+abbrev pub of_other : Other → Member
+of_other other = member other.spot.now other.pull.now other.due
 
 -- the members with these spots, pulls and flags
 abbrev pub members : List Spot → List Puller → List Bool → List Member

@@ -7,10 +7,13 @@ use Rattle.cell_block.specs.declared.rows.BlockRows.{BlockRows}
 use Rattle.cell_block.specs.Extents.{AreWithin}
 use Rattle.cell_block.specs.Reading.{tasks_of}
 use Rattle.cell_block.specs.Tasks.{IsMarked}
-use Rattle.cell_kern.specs.declared.blocks.Sums.{Sums}
-use Rattle.cell_kern.specs.declared.blocks.Sums.TheVariants.{Densities, Forces}
 use Rattle.cell_kern.specs.declared.members.Member.{Member}
 use Rattle.cell_kern.specs.inner.Gathered.{AreBelow, AreNarrow, IsSound, force_given, gathered, members, rho_given}
+
+-- the two kinds of sums of a block's members
+pub data Sums : Type 0 where
+  Densities : Sums
+  Forces : Sums
 
 -- the members of a block
 abbrev pub rows_in : BlockRows → List Member

@@ -9,32 +9,32 @@ use Rattle.cell_kern.proofs.Range.{all_taken, more_taken, next_taken, none_taken
 use Rattle.cell_kern.proofs.blocks.add_between.Goals as goal
 
 pub loop-one-init : goal.loop-one-init
-loop-one-init c = record {
-  first = none_taken c.args.sums 0 (flat_map rows_in c.args.second.now) c.args.first.now c.requires.first;
-  second = none_taken c.args.sums 0 (flat_map rows_in c.args.first.now) c.args.second.now c.requires.second;
+loop-one-init g c = record {
+  first = none_taken g.S.BlockSums.sums 0 (flat_map rows_in c.args.second.now) c.args.first.now c.requires.first;
+  second = none_taken g.S.BlockSums.sums 0 (flat_map rows_in c.args.first.now) c.args.second.now c.requires.second;
 }
 
 pub add_with-requires-clause-one : goal.add_with-requires-clause-one
-add_with-requires-clause-one c =
+add_with-requires-clause-one g c =
     rw c.deref_mut.ensures.value
-    (taken_can_all c.args.sums 0 (flat_map rows_in c.args.second.now) [] c.loop-one.one-index c.args.first.now c.loop-one.first c.requires.first
-    (rows_sound c.args.sums 0 c.args.second.now c.requires.second) c.requires.second_few (All-nil IsSound) (omega arith) c.loop-one.invariant.first
+    (taken_can_all g.S.BlockSums.sums 0 (flat_map rows_in c.args.second.now) [] c.loop-one.one-index c.args.first.now c.loop-one.first c.requires.first
+    (rows_sound g.S.BlockSums.sums 0 c.args.second.now c.requires.second) c.requires.second_few (All-nil IsSound) (omega arith) c.loop-one.invariant.first
     c.loop-one.one-index c.one-item.result (omega arith))
 
 pub add_with-requires-clause-others : goal.add_with-requires-clause-others
-add_with-requires-clause-others c =
+add_with-requires-clause-others g c =
     let first = c.args.first.now in
-    taken_can_all c.args.sums 0 (flat_map rows_in first) (flat_map rows_in (take c.loop-one.one-index first)) 0 c.args.second.now c.loop-one.second c.requires.second
-    (rows_sound c.args.sums 0 first c.requires.first) c.requires.first_few (part_sound c.args.sums 0 first c.loop-one.one-index c.requires.first) (part_few first c.loop-one.one-index c.requires.first_few) c.loop-one.invariant.second
+    taken_can_all g.S.BlockSums.sums 0 (flat_map rows_in first) (flat_map rows_in (take c.loop-one.one-index first)) 0 c.args.second.now c.loop-one.second c.requires.second
+    (rows_sound g.S.BlockSums.sums 0 first c.requires.first) c.requires.first_few (part_sound g.S.BlockSums.sums 0 first c.loop-one.one-index c.requires.first) (part_few first c.loop-one.one-index c.requires.first_few) c.loop-one.invariant.second
 
 pub add_with-requires-clause-few : goal.add_with-requires-clause-few
-add_with-requires-clause-few c =
+add_with-requires-clause-few g c =
     let first = c.args.first.now in
-    omega (arith, ap length (rows_after c.args.sums (flat_map rows_in first) (flat_map rows_in (take c.loop-one.one-index first)) 0 c.args.second.now c.loop-one.second c.loop-one.invariant.second), c.requires.second_few)
+    omega (arith, ap length (rows_after g.S.BlockSums.sums (flat_map rows_in first) (flat_map rows_in (take c.loop-one.one-index first)) 0 c.args.second.now c.loop-one.second c.loop-one.invariant.second), c.requires.second_few)
 
 pub loop-one-preserved : goal.loop-one-preserved
-loop-one-preserved c =
-    let sums = c.args.sums in
+loop-one-preserved g c =
+    let sums = g.S.BlockSums.sums in
     let first = c.args.first.now in
     let second = c.args.second.now in
     let now = c.loop-one.first in
@@ -53,10 +53,10 @@ loop-one-preserved c =
     }
 
 pub returns-clause-first : goal.returns-clause-first
-returns-clause-first c =
-    all_taken c.args.sums (flat_map rows_in c.args.second.now) [] c.loop-one.one-index c.args.first.now c.loop-one.first (omega arith) c.loop-one.invariant.first
+returns-clause-first g c =
+    all_taken g.S.BlockSums.sums (flat_map rows_in c.args.second.now) [] c.loop-one.one-index c.args.first.now c.loop-one.first (omega arith) c.loop-one.invariant.first
 
 pub returns-clause-second : goal.returns-clause-second
-returns-clause-second c =
+returns-clause-second g c =
     let first = c.args.first.now in
-    part_taken c.args.sums (flat_map rows_in first) (flat_map rows_in (take c.loop-one.one-index first)) c.args.second.now c.loop-one.second (ap (flat_map rows_in) (take_all c.loop-one.one-index first (omega arith))) c.loop-one.invariant.second
+    part_taken g.S.BlockSums.sums (flat_map rows_in first) (flat_map rows_in (take c.loop-one.one-index first)) c.args.second.now c.loop-one.second (ap (flat_map rows_in) (take_all c.loop-one.one-index first (omega arith))) c.loop-one.invariant.second

@@ -4,4 +4,4 @@ use Rattle.cell_kern.proofs.Range.{AreTaken}
 use Rattle.cell_kern.proofs.blocks.add_within.Given as goal
 
 abbrev pub invariant-loop-i : goal.invariant-loop-i
-invariant-loop-i l = AreTaken l.sums (flat_map rows_in l.fn.blocks) (flat_map rows_in (take l.i l.fn.blocks)) l.i l.fn.blocks l.blocks
+invariant-loop-i g l = AreTaken g.S.BlockSums.sums (flat_map rows_in l.fn.blocks) (flat_map rows_in (take l.i l.fn.blocks)) l.i l.fn.blocks l.blocks
