@@ -6,7 +6,7 @@ those of `plain`, and of each job where nothing fails. tools/hostile/preload.c m
 what needs it is left out and said so. Each difference is printed on standard error, and then the status is 1.
 
 With --memory each of the first 2,000 allocations of a run and then each 101st is refused alone, by two and by eight workers;
-without it each 50th of the first 500 and each 1,009th.
+without it each fifth is.
 """
 import os
 import random
@@ -37,9 +37,9 @@ class Hostile:
 
     def __init__(self, program, library, folder):
         self.program, self.library, self.folder = os.path.abspath(program), library, folder
-        self.long, self.large, self.largest = (folder / name for name in ("long.toml", "large.toml", "largest.toml"))
+        self.long, self.large, self.largest, self.lattice = (folder / f"{name}.toml" for name in ("long", "large", "largest", "lattice"))
         self.long.write_bytes(TWO.read_bytes().replace(b"\nticks = 8\n", b"\nticks = 65536\n"))
-        for path, side, ticks in [(self.large, "6", 16), (self.largest, "8", 400)]:
+        for path, side, ticks in [(self.large, "6", 16), (self.largest, "8", 400), (self.lattice, "12", 8)]:
             text = self.run(["generate", side, "8"])[1]
             path.write_bytes(text.replace(b"ticks = 4\n", b"ticks = %d\n" % ticks))
 
@@ -103,10 +103,10 @@ def check_reads(hostile):
         expect(f"reads of {words}, {faults}", count > (deck.stat().st_size if most else 1), (count, b"", b""))
         return count
 
-    cases = [(["run"], TWO, 1), (["run", "--workers", "4"], TWO, 1), (["plain"], ONE, 1), (["check"], ONE, 1), (["tree"], ONE, 1)]
-    cases += [(["run", "--workers", "4"], hostile.large, 0), (["check"], hostile.large, 0)]
-    count = together((one, *case, error) for case in cases for error in READS)
-    short = together((one, *case, BYTE) for case in cases if not case[2])
+    jobs = [["run"], ["plain"], ["check"], ["tree"], ["run", "--workers", "4"]]
+    count = together((one, words, hostile.large, 0, error) for words in jobs for error in READS)
+    count += together((one, words, ONE, 1, READS[k % len(READS)]) for k, words in enumerate(jobs))
+    short = together((one, words, hostile.large, 0, BYTE) for words in jobs)
     return f"reads: {count} that fail (EINTR, EAGAIN, EIO, EISDIR), {short} of one byte among whole ones"
 
 
@@ -130,10 +130,11 @@ def check_writes(hostile):
         expect(f"writes of {words}, {faults}", count == len(whole) if most else count > 0, (count, b"", b""))
         return count
 
-    wholes = [(["run", "--workers", "4"], hostile.large), (["plain"], hostile.large)]
-    cases = [(*job, most) for job in JOBS for most in (0, 1)] + [(*job, 0) for job in wholes]
-    count = together((one, *case, error) for case in cases for error in WRITES)
-    short = together((one, *case, BYTE) for case in cases if not case[2])
+    jobs = [*JOBS, (["run", "--workers", "4"], hostile.large)]
+    count = together((one, *job, 0, error) for job in jobs for error in WRITES)
+    count += together((one, ["run"], ONE, 1, error) for error in WRITES)
+    count += together((one, *job, 1, WRITES[k % len(WRITES)]) for k, job in enumerate(JOBS[1:5]))
+    short = together((one, *job, 0, BYTE) for job in jobs)
     return f"writes: {count} that fail (EINTR, EAGAIN, EIO, ENOSPC, EPIPE, 0 bytes taken), {short} of one byte among whole ones"
 
 
@@ -153,7 +154,9 @@ def check_error_lines(hostile):
         expect(f"lines of {words}, {faults}", count == len(line) if most else count == 1, (count, b"", b""))
         return count
 
-    return f"lines on standard error: {together((one, *case, most, error) for case in cases for most in (0, 1) for error in WRITES)} writes that fail"
+    count = together((one, *case, 0, error) for case in cases for error in WRITES)
+    count += together((one, *case, 1, WRITES[k]) for k, case in enumerate(cases))
+    return f"lines on standard error: {count} writes that fail"
 
 
 def check_room(hostile):
@@ -205,13 +208,12 @@ def check_devices(hostile):
     for words in (["run"], ["plain"], ["check"], ["tree"]):
         got = hostile.run(words, preexec_fn=lambda: os.close(0))
         expect(f"{words} with a closed input", got == (READ[0], b"", READ[1]), got)
-        with open(os.devnull) as _:
-            reader, writer = os.pipe()
-            os.set_blocking(reader, False)
-            got = hostile.run(words, stdin=reader)
-            expect(f"{words} from an empty pipe that doesn't block", got == (READ[0], b"", READ[1]), got)
-            os.close(reader)
-            os.close(writer)
+        reader, writer = os.pipe()
+        os.set_blocking(reader, False)
+        got = hostile.run(words, stdin=reader)
+        expect(f"{words} from an empty pipe that doesn't block", got == (READ[0], b"", READ[1]), got)
+        os.close(reader)
+        os.close(writer)
         folder = os.open(hostile.folder, os.O_RDONLY)
         got = hostile.run(words, stdin=folder)
         os.close(folder)
@@ -303,19 +305,17 @@ def is_done_or_no_memory(whole, ends, got):
 
 
 def check_limits(hostile):
-    """Limits of memory from 4 MB up until a run is done by them."""
+    """Limits of memory from 4 MB up: a lattice needs more, a small deck doesn't."""
     count = {0: 0, 6: 0}
-    for deck in (TWO, hostile.large, hostile.largest):
-        whole = hostile.run(["plain"], deck)[1] if deck is not hostile.largest else None
-        if whole is None:
-            continue
+    for deck, step in ((TWO, 1 << 20), (hostile.lattice, 1 << 17)):
+        whole = hostile.run(["run"], deck)[1]
         ends = snapshot_ends(whole)
-        for workers in "14":
-            for step in range(160):
-                most = 4_000_000 + 100_000 * step
+        for workers, turns in (("1", 40), ("4", 30)):
+            for most in range(4 << 20, (4 << 20) + turns * step, step):
                 got = hostile.run(["run", "--workers", workers], deck, preexec_fn=lambda: limit(resource.RLIMIT_AS, most))
                 expect(f"{workers} workers in {most} bytes", is_done_or_no_memory(whole, ends, got), got)
                 count[got[0]] = count.get(got[0], 0) + 1
+    expect("runs of both kinds", min(count.values()) > 10, (count, b"", b""))
     return f"limits of memory: {count[0]} runs that are done and {count[6]} that have no memory"
 
 
@@ -332,7 +332,7 @@ def check_allocations(hostile, all_of_them):
         count = k = 1
         while one(workers, k):
             count += 1
-            k += (1 if k < 2000 else 101) if all_of_them else (50 if k < 500 else 1009)
+            k += (1 if k < 2000 else 101) if all_of_them else 5
         return count - 1
 
     return f"allocations: {together((some, workers) for workers in (2, 8))} refused, each alone"
